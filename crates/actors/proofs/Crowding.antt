@@ -7,36 +7,36 @@ use Rattle.actors.specs.Drawing.{Drawing}
 use Rattle.actors.specs.Room.{IsTooFull, connect_packets, connecting, unconnected_tries}
 use Rattle.actors.specs.Turns.{Walks}
 use Rattle.actors.specs.declared.room.Reconnection.{Reconnection}
-use Rattle.book_parts.specs.Rows.{free_to, looks_to}
-use Rattle.broker.specs.Node.{BrokerBook}
+use Rattle.log_parts.specs.Rows.{free_to, looks_to}
+use Rattle.broker.specs.Node.{BrokerView}
 use Rattle.client.specs.State.{viewed}
 use Rattle.client.specs.declared.client.state.ClientView.{ClientView}
 use Rattle.geo_base.specs.declared.packet.Peer.TheVariants as peer
 use Rattle.geo_base.specs.Client.{Client}
-use Rattle.node_book.specs.declared.state.NodeState.{NodeState as Kept}
-use Rattle.node_book.specs.declared.state.NodeState.TheVariants as kept
-use Rattle.node_book.specs.declared.state.NumberedClient.{NumberedClient}
-use Rattle.node_book.specs.Acts.{SameBook}
-use Rattle.node_book.specs.Books.{BookValue, StateOf}
+use Rattle.node_log.specs.declared.state.NodeState.{NodeState as Kept}
+use Rattle.node_log.specs.declared.state.NodeState.TheVariants as kept
+use Rattle.node_log.specs.declared.state.NumberedClient.{NumberedClient}
+use Rattle.node_log.specs.Acts.{SameLog}
+use Rattle.node_log.specs.Logs.{NodeLogView, StateOf}
 use Rattle.wire_ends.specs.Looks.{Looked}
 use Rattle.wire_ends.specs.declared.packet.WirePacket.{WirePacket}
 
-pub same_book : {E : Type 0} (sent_in taken_in : E → List WirePacket) (b : BookValue E) → SameBook sent_in taken_in b b
-same_book sent_in taken_in b = record { scenario = refl; node = refl; state = refl; history = refl; clock = refl; sent = λ q. refl; taken = λ q. refl }
+pub same_log : {E : Type 0} (sent_in taken_in : E → List WirePacket) (b : NodeLogView E) → SameLog sent_in taken_in b b
+same_log sent_in taken_in b = record { scenario = refl; node = refl; state = refl; history = refl; clock = refl; sent = λ q. refl; taken = λ q. refl }
 
 below : (n m p k : ℕ) → m ≡ min p k → n < m → n < p
 below n m p k is few = omega (arith, is, few)
 
-pub too_full : {E : Type 0} (free looks : E → ℕ) (places : ℕ) (b b' : BookValue E) (o : Option Reconnection) (at : Reconnection) (n m : ℕ) → o ≡ Some at → o ≡ connecting b.state
+pub too_full : {E : Type 0} (free looks : E → ℕ) (places : ℕ) (b b' : NodeLogView E) (o : Option Reconnection) (at : Reconnection) (n m : ℕ) → o ≡ Some at → o ≡ connecting b.state
     → n ≡ free_to free b'.ends at.to → m ≡ min (places * at.packets) (2 ^ 64 - 1) → n < m → Looked (looks_to looks b.ends at.to) (looks_to looks b'.ends at.to) → IsTooFull free looks places b b'
 too_full free looks places b b' o at n m some is free_is most few looked =
     record { at = at; client = sym is ∙ some; few = rw (sym free_is) (below n m (places * at.packets) (2 ^ 64 - 1) most few); looked = looked }
 
-pub client_connecting : {E : Type 0} (b : BookValue E) (st : Kept) (k : NumberedClient) (at : Reconnection) → StateOf b st → st ≡ kept.Client k
+pub client_connecting : {E : Type 0} (b : NodeLogView E) (st : Kept) (k : NumberedClient) (at : Reconnection) → StateOf b st → st ≡ kept.Client k
     → at ≡ record { to = peer.Broker k.client.cluster; packets = connect_packets k.client } → Some at ≡ connecting b.state
 client_connecting b st k at h is at_is = rw (h.state, is, at_is) refl
 
-pub broker_connecting : {E : Type 0} (b : BookValue E) (st : Kept) (v : BrokerBook) → StateOf b st → st ≡ kept.Broker v → None ≡ connecting b.state
+pub broker_connecting : {E : Type 0} (b : NodeLogView E) (st : Kept) (v : BrokerView) → StateOf b st → st ≡ kept.Broker v → None ≡ connecting b.state
 broker_connecting b st v h is = rw (h.state, is) refl
 
 abbrev shape : Client → Reconnection
@@ -46,9 +46,9 @@ pub connecting_is : (k : Client) (v : ClientView) (at : Reconnection) → viewed
 connecting_is k v at is at_is = at_is ∙ ap shape is
 
 -- another actor than a client's tries nothing
-pub none_tried : {E : Type 0} (sent_in taken_in : E → List WirePacket) (shown : E → Option WirePacket) (free looks : E → ℕ) (r : Role) (d : Drawing) (b : BookValue E) → ((c : ℕ) → r ≡ role.Client c → ⊥)
+pub none_tried : {E : Type 0} (sent_in taken_in : E → List WirePacket) (shown : E → Option WirePacket) (free looks : E → ℕ) (r : Role) (d : Drawing) (b : NodeLogView E) → ((c : ℕ) → r ≡ role.Client c → ⊥)
     → Walks sent_in taken_in shown free looks (unconnected_tries r d) d b b d (Ok false)
-none_tried sent_in taken_in shown free looks (role.Sender l) d b other = Walks.nothing d b
+none_tried sent_in taken_in shown free looks (role.Replicator l) d b other = Walks.nothing d b
 none_tried sent_in taken_in shown free looks (role.Receiver l) d b other = Walks.nothing d b
 none_tried sent_in taken_in shown free looks (role.Controller t x) d b other = Walks.nothing d b
 none_tried sent_in taken_in shown free looks (role.Dispatcher t x i) d b other = Walks.nothing d b

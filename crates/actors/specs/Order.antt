@@ -1,5 +1,5 @@
 -- The roles of a scenario in the order in which their actors are numbered (own: any fixed order would do): by topic, and in a topic
--- the senders and receivers of its links, a controller of each cluster, the dispatchers, and the topic's clients, each with its
+-- the replicators and receivers of its links, a controller of each cluster, the dispatchers, and the topic's clients, each with its
 -- server.
 use Rattle.std.specs.Prelude.{ℕ, zero, suc, ◌==◌, if◌then◌else◌, List, [], ◌∷◌, ◌++◌, length}
 use Rattle.actors.specs.declared.role.Link.{Link}
@@ -15,9 +15,9 @@ for_each (suc n) f = for_each n f ++ f n
 abbrev pub link : ℕ → ℕ → ℕ → Link
 link t x y = record { topic = t; source = x; target = y }
 
--- a link from x to y: a sender at the one, a receiver at the other
+-- a link from x to y: a replicator at the one, a receiver at the other
 unfoldable pub link_roles : ℕ → ℕ → ℕ → List Role
-link_roles t x y = if x == y then [] else role.Sender (link t x y) ∷ role.Receiver (link t x y) ∷ []
+link_roles t x y = if x == y then [] else role.Replicator (link t x y) ∷ role.Receiver (link t x y) ∷ []
 
 unfoldable pub source_roles : Setup → ℕ → ℕ → List Role
 source_roles s t x = for_each (length s.clusters) (link_roles t x)

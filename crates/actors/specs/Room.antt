@@ -6,20 +6,20 @@ use Rattle.actors.specs.declared.role.Role.TheVariants as role
 use Rattle.actors.specs.declared.room.Reconnection.{Reconnection}
 use Rattle.actors.specs.Drawing.{Drawing}
 use Rattle.actors.specs.Tries.{Actor, Try, client_tries, connection_due}
-use Rattle.book_parts.specs.Rows.{free_to, looks_to}
+use Rattle.log_parts.specs.Rows.{free_to, looks_to}
 use Rattle.geo_base.specs.declared.packet.Peer.TheVariants as peer
 use Rattle.geo_base.specs.Client.{Client}
 use Rattle.geo_base.specs.NodeState.{BrokerState, ClientState, NodeState}
-use Rattle.node_book.specs.Books.{BookValue}
+use Rattle.node_log.specs.Logs.{NodeLogView}
 use Rattle.wire_ends.specs.Looks.{Looked}
 
 abbrev pub is_due : Option Bool → Bool
 is_due None = false
 is_due (Some due) = due
 
--- a client's actor that is to connect in a turn at a book
-abbrev pub connects_now : {E : Type 0} → Actor → Role → BookValue E → Bool
-connects_now a (role.Sender l) b = false
+-- a client's actor that is to connect in a turn at a log
+abbrev pub connects_now : {E : Type 0} → Actor → Role → NodeLogView E → Bool
+connects_now a (role.Replicator l) b = false
 connects_now a (role.Receiver l) b = false
 connects_now a (role.Controller t x) b = false
 connects_now a (role.Dispatcher t x i) b = false
@@ -40,7 +40,7 @@ connecting (ClientState k) = Some (record { to = peer.Broker k.cluster; packets 
 
 -- A look found that the end to the client's broker has fewer places than its packets take, so many each. free_of and looks_of are those
 -- of an end.
-pub record IsTooFull {E : Type 0} (free_of looks_of : E → ℕ) (places : ℕ) (old new : BookValue E) : Type 0 where
+pub record IsTooFull {E : Type 0} (free_of looks_of : E → ℕ) (places : ℕ) (old new : NodeLogView E) : Type 0 where
   pub at : Reconnection
   pub client : connecting old.state ≡ Some at
   pub few : free_to free_of new.ends at.to < places * at.packets
@@ -48,7 +48,7 @@ pub record IsTooFull {E : Type 0} (free_of looks_of : E → ℕ) (places : ℕ) 
 
 -- what a client tries but for a connection
 abbrev pub unconnected_tries : Role → Drawing → List Try
-unconnected_tries (role.Sender l) d = []
+unconnected_tries (role.Replicator l) d = []
 unconnected_tries (role.Receiver l) d = []
 unconnected_tries (role.Controller t x) d = []
 unconnected_tries (role.Dispatcher t x i) d = []

@@ -1,8 +1,8 @@
 //! The actors of a run on threads: what each of them does, in which order they are numbered, and where their chances come from; and the
 //! numbers of a scenario's topics, clusters, clients and nodes, as such a run goes through them.
 //!
-//! In each turn an actor tries the events of its role at a book, until the book does one. No thread stands here: whoever has an actor and
-//! a book takes the turn.
+//! In each turn an actor tries the events of its role at a log, until the log does one. No thread stands here: whoever has an actor and
+//! a log takes the turn.
 #![tactic(auto)]
 
 mod actor;

@@ -31,7 +31,7 @@ fn add_topic(scenario: &Scenario, topic: u32, roles: &mut Vec<Role>) -> Result<(
     add_clients(scenario, topic, roles)
 }
 
-/// The senders and receivers of a topic.
+/// The replicators and receivers of a topic.
 #[tactic(auto, using(crate::proofs::Counting::next, crate::proofs::Counting::none, std::proofs::lemmas::Grind::common_steps))]
 fn add_links(scenario: &Scenario, topic: u32, roles: &mut Vec<Role>) -> Result<(), Memory>
     ensures { OnOk result (roles.new.items ≡ roles.old.items ++ for_each (length scenario.now.setup.clusters) (source_roles scenario.now.setup topic)) }
@@ -71,7 +71,7 @@ fn add_link(topic: u32, source: u32, target: u32, roles: &mut Vec<Role>) -> Resu
         source,
         target,
     };
-    roles.push(Role::Sender(link))?;
+    roles.push(Role::Replicator(link))?;
     roles.push(Role::Receiver(link))?;
     Ok(())
 }

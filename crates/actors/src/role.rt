@@ -65,7 +65,7 @@ impl Link {
 #[derive(Clone, Copy, Drop, PartialEq, Eq)]
 pub enum Role {
     /// Begins sessions at the source of a link, takes their receipts, and reads the topic.
-    Sender(Link),
+    Replicator(Link),
     /// Takes at the target of a link what comes.
     Receiver(Link),
     /// Begins snapshots, and restarts the broker by chance.

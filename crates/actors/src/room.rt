@@ -4,14 +4,14 @@ ghost use Rattle.actors.specs.Drawing.{Drawing};
 ghost use Rattle.actors.specs.Room.{IsTooFull, connect_packets, connecting, connects_now, one_if, unconnected_tries};
 ghost use Rattle.actors.specs.Turns.{Walks, waited_after};
 ghost use Rattle.geo_base.specs.declared.packet.Peer.TheVariants as peer;
-ghost use Rattle.node_book.specs.Acts.{SameBook};
+ghost use Rattle.node_log.specs.Acts.{SameLog};
 
 use crate::actor::Actor;
 use crate::role::Role;
 use crate::turning::{has_waited, run_client, waited_after};
 use client::Client;
 use geo_base::{Memory, Peer};
-use node_book::{NodeBook, NodeState};
+use node_log::{NodeLog, NodeState};
 use std::alloc::Global;
 use wire_ends::End;
 
@@ -23,26 +23,26 @@ pub(crate) struct Reconnection {
 }
 
 impl Actor {
-    /// Whether the actor is a client's that is to connect in its next turn at the book, and a look finds fewer places at the end to
+    /// Whether the actor is a client's that is to connect in its next turn at the log, and a look finds fewer places at the end to
     /// its broker than its packets take, each at least so many as the caller knows that a packet takes there. To write all these
     /// would be in vain. State, history, clock and what was sent and taken are as they were.
-    pub fn waits_for_room<E: End>(&self, book: &mut NodeBook<E>, places: usize) -> bool
-        ensures due { IsTrue result → IsTrue (connects_now self.now self.now.role book.old) }
-        ensures full { IsTrue result → IsTooFull E.free E.looks places book.old book.new }
-        ensures same { SameBook E.sent E.taken book.old book.new }
+    pub fn waits_for_room<E: End>(&self, log: &mut NodeLog<E>, places: usize) -> bool
+        ensures due { IsTrue result → IsTrue (connects_now self.now self.now.role log.old) }
+        ensures full { IsTrue result → IsTooFull E.free E.looks places log.old log.new }
+        ensures same { SameLog E.sent E.taken log.old log.new }
     {
-        if !self.connects_now(book) {
+        if !self.connects_now(log) {
             return false;
         }
-        is_too_full(book, places)
+        is_too_full(log, places)
     }
 
-    /// Whether the actor is a client's that is to connect in its next turn at the book.
-    fn connects_now<E: End>(&self, book: &NodeBook<E>) -> bool
-        ensures { result ≡ connects_now self.now self.now.role book.now }
+    /// Whether the actor is a client's that is to connect in its next turn at the log.
+    fn connects_now<E: End>(&self, log: &NodeLog<E>) -> bool
+        ensures { result ≡ connects_now self.now self.now.role log.now }
     {
         match self.role {
-            Role::Client { client } => match self.is_connection_due(book, client) {
+            Role::Client { client } => match self.is_connection_due(log, client) {
                 Some(is_due) => is_due,
                 None => false,
             },
@@ -56,54 +56,50 @@ impl Actor {
     pub fn turn_unconnected<E: End>(
         &mut self,
         alloc: Global,
-        book: &mut NodeBook<E>,
+        log: &mut NodeLog<E>,
     ) -> Result<bool, Memory>
-        ensures walk { Walks E.sent E.taken E.shown E.free E.looks (unconnected_tries self.old.role self.old.drawing) self.old.drawing book.old book.new self.old.drawing result }
-        ensures waited { self.new.waited ≡ waited_after self.old book.new result }
+        ensures walk { Walks E.sent E.taken E.shown E.free E.looks (unconnected_tries self.old.role self.old.drawing) self.old.drawing log.old log.new self.old.drawing result }
+        ensures waited { self.new.waited ≡ waited_after self.old log.new result }
         ensures rest { self.new ≡ record self.old { waited = self.new.waited } }
     {
-        let is_done = try_unconnected(self.role, alloc, book)?;
-        let is_waiting = !is_done && has_waited(self.role, book);
+        let is_done = try_unconnected(self.role, alloc, log)?;
+        let is_waiting = !is_done && has_waited(self.role, log);
         self.waited = waited_after(self.waited, is_waiting);
         Ok(is_done)
     }
 }
 
 /// What came for a client, and its next line.
-fn try_unconnected<E: End>(
-    role: Role,
-    alloc: Global,
-    book: &mut NodeBook<E>,
-) -> Result<bool, Memory>
-    ensures { (d : Drawing) → Walks E.sent E.taken E.shown E.free E.looks (unconnected_tries role d) d book.old book.new d result }
+fn try_unconnected<E: End>(role: Role, alloc: Global, log: &mut NodeLog<E>) -> Result<bool, Memory>
+    ensures { (d : Drawing) → Walks E.sent E.taken E.shown E.free E.looks (unconnected_tries role d) d log.old log.new d result }
 {
     match role {
-        Role::Client { client } => run_client(alloc, book, client, Some(false)),
+        Role::Client { client } => run_client(alloc, log, client, Some(false)),
         _ => Ok(false),
     }
 }
 
-/// Whether a look finds fewer places at the end to a client's broker than its packets take as it connects. False at a broker's book.
-#[tactic(auto, using(crate::proofs::Crowding::too_full, crate::proofs::Crowding::same_book))]
-fn is_too_full<E: End>(book: &mut NodeBook<E>, places: usize) -> bool
-    ensures full { IsTrue result → IsTooFull E.free E.looks places book.old book.new }
-    ensures same { SameBook E.sent E.taken book.old book.new }
+/// Whether a look finds fewer places at the end to a client's broker than its packets take as it connects. False at a broker's log.
+#[tactic(auto, using(crate::proofs::Crowding::too_full, crate::proofs::Crowding::same_log))]
+fn is_too_full<E: End>(log: &mut NodeLog<E>, places: usize) -> bool
+    ensures full { IsTrue result → IsTooFull E.free E.looks places log.old log.new }
+    ensures same { SameLog E.sent E.taken log.old log.new }
 {
-    let Some(connecting) = connecting(book) else {
+    let Some(connecting) = connecting(log) else {
         return false;
     };
-    if !book.has_peer(connecting.to) {
+    if !log.has_peer(connecting.to) {
         return false;
     }
-    book.free(connecting.to) < places.saturating_mul(connecting.packets)
+    log.free(connecting.to) < places.saturating_mul(connecting.packets)
 }
 
-/// Where the client of a book connects; `None` exactly for a broker's.
+/// Where the client of a log connects; `None` exactly for a broker's.
 #[tactic(auto, using(crate::proofs::Crowding::client_connecting, crate::proofs::Crowding::broker_connecting))]
-fn connecting<E: End>(book: &NodeBook<E>) -> Option<Reconnection>
-    ensures { result ≡ connecting book.now.state }
+fn connecting<E: End>(log: &NodeLog<E>) -> Option<Reconnection>
+    ensures { result ≡ connecting log.now.state }
 {
-    match book.state() {
+    match log.state() {
         NodeState::Broker(_) => None,
         NodeState::Client(state) => Some(connecting_of(&state.client)),
     }

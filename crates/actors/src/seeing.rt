@@ -1,20 +1,20 @@
-//! What an actor looks at in a book before it tries an event.
+//! What an actor looks at in a log before it tries an event.
 ghost use Rattle.std.specs.Prelude.{◌≡◌, true, false, MatchOption};
-ghost use Rattle.actors.specs.Tries.{cluster_of, has_sender, is_broker, is_client, is_closed, is_connected, sender_to, waits};
+ghost use Rattle.actors.specs.Tries.{cluster_of, has_replicator, is_broker, is_client, is_closed, is_connected, replicator_to, waits};
 ghost use Rattle.replicator.specs.Sending.{sending_of};
 
 use crate::Link;
-use geo_base::SenderState;
-use node_book::{NodeBook, NodeState};
-use replicator::Sender;
+use geo_base::ReplicatorState;
+use node_log::{NodeLog, NodeState};
+use replicator::Replicator;
 use wire_ends::End;
 
-/// Whether a book is that of the broker of a topic at a cluster.
+/// Whether a log is that of the broker of a topic at a cluster.
 #[tactic(auto, using(crate::proofs::SeenNodes::broker_here, crate::proofs::SeenNodes::client_elsewhere))]
-pub(crate) fn is_broker<E: End>(book: &NodeBook<E>, topic: u32, cluster: u32) -> bool
-    ensures { result ≡ is_broker book.now.node topic cluster }
+pub(crate) fn is_broker<E: End>(log: &NodeLog<E>, topic: u32, cluster: u32) -> bool
+    ensures { result ≡ is_broker log.now.node topic cluster }
 {
-    match book.state() {
+    match log.state() {
         NodeState::Broker(broker) => broker.topic() == topic && broker.cluster() == cluster,
         NodeState::Client(_) => false,
     }
@@ -22,10 +22,10 @@ pub(crate) fn is_broker<E: End>(book: &NodeBook<E>, topic: u32, cluster: u32) ->
 
 /// Whether it is that of a client.
 #[tactic(auto, using(crate::proofs::SeenNodes::client_here, crate::proofs::SeenNodes::broker_elsewhere))]
-pub(crate) fn is_client<E: End>(book: &NodeBook<E>, client: u32) -> bool
-    ensures { result ≡ is_client book.now.node client }
+pub(crate) fn is_client<E: End>(log: &NodeLog<E>, client: u32) -> bool
+    ensures { result ≡ is_client log.now.node client }
 {
-    match book.state() {
+    match log.state() {
         NodeState::Broker(_) => false,
         NodeState::Client(state) => state.number == client,
     }
@@ -33,21 +33,21 @@ pub(crate) fn is_client<E: End>(book: &NodeBook<E>, client: u32) -> bool
 
 /// Whether its client is connected; a broker is not.
 #[tactic(auto, using(crate::proofs::SeenNodes::client_connected, crate::proofs::SeenNodes::broker_unconnected))]
-pub(crate) fn is_connected<E: End>(book: &NodeBook<E>) -> bool
-    ensures { result ≡ is_connected book.now.state }
+pub(crate) fn is_connected<E: End>(log: &NodeLog<E>) -> bool
+    ensures { result ≡ is_connected log.now.state }
 {
-    match book.state() {
+    match log.state() {
         NodeState::Broker(_) => false,
         NodeState::Client(state) => state.client.view().is_connected,
     }
 }
 
-/// The cluster of a broker's book, where its broker is of a topic; `None` exactly where it is not.
+/// The cluster of a broker's log, where its broker is of a topic; `None` exactly where it is not.
 #[tactic(auto, using(crate::proofs::SeenNodes::broker_cluster, crate::proofs::SeenNodes::client_cluster))]
-pub(crate) fn cluster_of<E: End>(book: &NodeBook<E>, topic: u32) -> Option<u32>
-    ensures { result ≡ cluster_of book.now.node topic }
+pub(crate) fn cluster_of<E: End>(log: &NodeLog<E>, topic: u32) -> Option<u32>
+    ensures { result ≡ cluster_of log.now.node topic }
 {
-    match book.state() {
+    match log.state() {
         NodeState::Broker(broker) => {
             if broker.topic() == topic {
                 Some(broker.cluster())
@@ -59,32 +59,32 @@ pub(crate) fn cluster_of<E: End>(book: &NodeBook<E>, topic: u32) -> Option<u32>
     }
 }
 
-/// The sender of a link in the book of its source; `None` exactly where the book is of another node, or the target is no cluster.
-#[tactic(auto, using(crate::proofs::SeenNodes::sender_here, crate::proofs::SeenNodes::sender_gone, crate::proofs::SeenNodes::sender_away, crate::proofs::SeenNodes::sender_is, crate::proofs::SeenNodes::site_clusters))]
-pub(crate) fn sender_of<E: End>(book: &NodeBook<E>, link: Link) -> Option<&Sender>
-    ensures { MatchOption result (has_sender book.now link ≡ false)
-        (λ s. (has_sender book.now link ≡ true) × (s.now.sending ≡ sending_of (sender_to book.now.state link.target))) }
+/// The replicator of a link in the log of its source; `None` exactly where the log is of another node, or the target is no cluster.
+#[tactic(auto, using(crate::proofs::SeenNodes::replicator_here, crate::proofs::SeenNodes::replicator_gone, crate::proofs::SeenNodes::replicator_away, crate::proofs::SeenNodes::replicator_is, crate::proofs::SeenNodes::site_clusters))]
+pub(crate) fn replicator_of<E: End>(log: &NodeLog<E>, link: Link) -> Option<&Replicator>
+    ensures { MatchOption result (has_replicator log.now link ≡ false)
+        (λ s. (has_replicator log.now link ≡ true) × (s.now.sending ≡ sending_of (replicator_to log.now.state link.target))) }
 {
-    let clusters = book.scenario().clusters().len();
-    if !is_broker(book, link.topic, link.source) || link.target as usize >= clusters {
+    let clusters = log.scenario().clusters().len();
+    if !is_broker(log, link.topic, link.source) || link.target as usize >= clusters {
         return None;
     }
-    match book.state() {
-        NodeState::Broker(broker) => Some(broker.sender(link.target).sender()),
+    match log.state() {
+        NodeState::Broker(broker) => Some(broker.replicator(link.target).replicator()),
         NodeState::Client(_) => None,
     }
 }
 
-/// Whether a sender has no session.
-pub(crate) fn is_closed(sender: &Sender) -> bool
-    ensures { result ≡ is_closed sender.now.sending.state }
+/// Whether a replicator has no session.
+pub(crate) fn is_closed(replicator: &Replicator) -> bool
+    ensures { result ≡ is_closed replicator.now.sending.state }
 {
-    sender.state() == SenderState::Closed
+    replicator.state() == ReplicatorState::Closed
 }
 
-/// Whether a sender waits: its session is not opened yet, or entries await their receipts.
-pub(crate) fn waits(sender: &Sender) -> bool
-    ensures { result ≡ waits sender.now.sending.state sender.now.sending.pending }
+/// Whether a replicator waits: its session is not opened yet, or entries await their receipts.
+pub(crate) fn waits(replicator: &Replicator) -> bool
+    ensures { result ≡ waits replicator.now.sending.state replicator.now.sending.pending }
 {
-    sender.state() == SenderState::Opening || sender.pending_len() > 0
+    replicator.state() == ReplicatorState::Opening || replicator.pending_len() > 0
 }

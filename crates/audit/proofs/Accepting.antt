@@ -3,7 +3,6 @@ use Rattle.std.proofs.Common.{◌≡◌, ℕ, ◌==◌, Bool, true, false, List,
 use Rattle.std.specs.Prelude.{◌<◌, Option, Some, None, if◌then◌else◌, codes, Result, Ok, Err}
 use Rattle.std.specs.List.{AllByRecursion}
 use Rattle.std.specs.Str.{bytes_eq}
-use Rattle.std.proofs.lemmas.Bool.{eqb-true}
 use Rattle.std.proofs.lemmas.Option.{none-some}
 use Rattle.std.proofs.lemmas.Slice.Eq.{bytes_eq-Decides}
 use Rattle.geo_base.specs.Audit.{Refusal, audited_from, judged, refused}
@@ -19,8 +18,9 @@ use Rattle.audit.specs.declared.strictness.Strictness.TheVariants as strictness
 use Rattle.audit.specs.AuditOf.{IsAccepted, audit_by, headed, item_refused, lines_audited, may_come, names_of, told_if}
 use Rattle.audit.specs.Numbers.{IsItemOf}
 use Rattle.audit.proofs.LineNumbers.{item_numbers, some_piece}
+use Rattle.geo_base.proofs.Lists.{empty_by_length}
 
--- what the pieces behind `trace` say
+-- what the pieces after `trace` say
 record Said (k : Strictness) (s : Setup) (a : Mirrors) (ls : List (List ℕ)) (events : ℕ) : Type 0 where
   lines : List (List ℕ)
   items : List Item
@@ -32,16 +32,12 @@ record Said (k : Strictness) (s : Setup) (a : Mirrors) (ls : List (List ℕ)) (e
   strictly : audited_from_by k s a items ≡ Ok mirrors
   told_is : mirrors.events ≡ events
 
-empty_is : (l : List ℕ) → (length l == 0) ≡ true → l ≡ []
-empty_is [] e = refl
-empty_is (x ∷ l) e = absurd (let same : length (x ∷ l) ≡ 0 = eqb-true (length (x ∷ l)) 0 e in omega (arith, same))
-
 last_piece : (k : Strictness) (s : Setup) (a : Mirrors) (l : List ℕ) (n : ℕ) (b : Bool) → (length l == 0) ≡ b → if◌then◌else◌ {A = Result ℕ Refusal} b (Ok a.events) (Err (record { event = a.events; rule = 1 })) ≡ Ok n → Said k s a (l ∷ []) n
 last_piece k s a l n true e h = record {
   lines = [];
   items = [];
   mirrors = a;
-  cut = ap (λ (w : List ℕ). w ∷ []) (empty_is l e);
+  cut = ap (λ (w : List ℕ). w ∷ []) (empty_by_length l e);
   read = refl;
   known = tt;
   accepted = refl;
@@ -111,7 +107,7 @@ head_said k s (w ∷ l ∷ ls) bytes n cut h = by (bytes_eq w (codes "trace")) r
           told = r.told_is;
         }
 
--- where the first line is `trace`, the audit is that of the lines behind it
+-- where the first line is `trace`, the audit is that of the lines after it
 pub audit_reads : (k : Strictness) (s : Setup) (bytes head lines : List ℕ) → cut_by 10 bytes ≡ head ∷ cut_by 10 lines → bytes_eq head (codes "trace") ≡ true
     → audit_by k s bytes ≡ lines_audited k s (opening_mirrors s) (cut_by 10 lines)
 unfolding audit_by

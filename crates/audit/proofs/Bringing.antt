@@ -13,7 +13,7 @@ use Rattle.audit.specs.Brought.{AreAllBrought, AreBrought, AreBroughtTo, Brought
 use Rattle.audit.specs.Covers.{entries_of}
 use Rattle.audit.specs.Stored.{is_same_at}
 use Rattle.audit.specs.declared.brought.Route.{Route}
-use Rattle.audit.proofs.EntryPassing.{some_at}
+use Rattle.audit.proofs.EntryAcks.{some_at}
 use Rattle.audit.proofs.Needing.{AllGrown, Grown, get_none, length_both, lists_length, set_entries, set_length, set_list, take_less}
 
 abbrev pub goes : Route → Entry → Bool
@@ -30,11 +30,11 @@ counted p es i e at =
     let is : get_or es i e ≡ e = same_Some (get_or es i e) e (sym (some_at es i e lt) ∙ at) in
     length-filter_more p es i e lt ∙ ap (λ (f : Entry). length (filter p (take i es)) + cond (p f) 1 0) is
 
-pub pass_over : (p : Entry → Bool) (es : List Entry) (i : ℕ) (e : Entry) → slice_get es i ≡ Some e → p e ≡ false → length (filter p (take (i + 1) es)) ≡ length (filter p (take i es))
-pass_over p es i e at fails = let h = counted p es i e at ∙ ap (λ (b : Bool). length (filter p (take i es)) + cond b 1 0) fails in omega (arith, h)
+pub update_to : (p : Entry → Bool) (es : List Entry) (i : ℕ) (e : Entry) → slice_get es i ≡ Some e → p e ≡ false → length (filter p (take (i + 1) es)) ≡ length (filter p (take i es))
+update_to p es i e at fails = let h = counted p es i e at ∙ ap (λ (b : Bool). length (filter p (take i es)) + cond b 1 0) fails in omega (arith, h)
 
-pub pass_one : (p : Entry → Bool) (es : List Entry) (i : ℕ) (e : Entry) → slice_get es i ≡ Some e → p e ≡ true → length (filter p (take (i + 1) es)) ≡ length (filter p (take i es)) + 1
-pass_one p es i e at holds = counted p es i e at ∙ ap (λ (b : Bool). length (filter p (take i es)) + cond b 1 0) holds
+pub update_one : (p : Entry → Bool) (es : List Entry) (i : ℕ) (e : Entry) → slice_get es i ≡ Some e → p e ≡ true → length (filter p (take (i + 1) es)) ≡ length (filter p (take i es)) + 1
+update_one p es i e at holds = counted p es i e at ∙ ap (λ (b : Bool). length (filter p (take i es)) + cond b 1 0) holds
 
 few : (p : Entry → Bool) (k : ℕ) (es : List Entry) → length (filter p (take k es)) ≤ length (filter p es)
 few p zero es = omega arith
@@ -45,7 +45,7 @@ few p (suc k) (e ∷ es) = by (p e) (few p k es)
     by true h = omega (arith, h)
     by false h = h
 
--- an entry that passes stands among those that pass behind as many as pass before it
+-- an entry that passes stands among those that pass after as many as pass before it
 passing_at : (p : Entry → Bool) (es : List Entry) (i : ℕ) (e : Entry) → slice_get es i ≡ Some e → p e ≡ true → slice_get (filter p es) (length (filter p (take i es))) ≡ Some e
 passing_at p [] i e at holds = absurd (none-some e at)
 passing_at p (f ∷ es) zero e at holds =
@@ -95,7 +95,7 @@ own_passed here there b e h at other =
     record {
       seen_within = omega (arith, lt);
       passed_within = h.passed_within;
-      as_many = h.as_many ∙ sym (pass_over (is_of b.route.origin) here b.seen e at other);
+      as_many = h.as_many ∙ sym (update_to (is_of b.route.origin) here b.seen e at other);
     }
 
 pub one_brought : (here there : List Entry) (b : BroughtHere) (e : Entry) (i : ℕ) → AreBrought here there b → slice_get here b.seen ≡ Some e → is_of b.route.origin e ≡ true
@@ -108,8 +108,8 @@ one_brought here there b e i h at own first =
       seen_within = omega (arith, lt);
       passed_within = omega (arith, lt');
       as_many =
-          pass_one (goes b.route) there i f is (first.goes f is)
-          ∙ (ap (λ (n : ℕ). n + 1) (first.none_before ∙ h.as_many) ∙ sym (pass_one (is_of b.route.origin) here b.seen e at own));
+          update_one (goes b.route) there i f is (first.goes f is)
+          ∙ (ap (λ (n : ℕ). n + 1) (first.none_before ∙ h.as_many) ∙ sym (update_one (is_of b.route.origin) here b.seen e at own));
     }
 
 pub more_here : (here there : List Entry) (b : BroughtHere) → AreBrought here there b → HasNoneFrom b.route there b.passed

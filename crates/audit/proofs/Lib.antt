@@ -1,4 +1,4 @@
-pub mod EntryPassing
+pub mod EntryAcks
 mod Steps
 mod Following
 mod Gains

@@ -1,5 +1,5 @@
 -- One step of a loop over the clusters of a snapshot.
-use Rattle.std.proofs.Common.{◌≡◌, ℕ, suc, ◌+◌, ◌-◌, ◌<◌, Bool, true, false, List, arith, ap, refl, ◌∙◌}
+use Rattle.std.proofs.Common.{◌≡◌, ℕ, ◌+◌, ◌-◌, ◌<◌, Bool, true, false, List, ap, refl, ◌∙◌}
 use Rattle.std.specs.Prelude.{◌==◌, ◌&&◌, ◌||◌, Option}
 use Rattle.std.specs.List.{list_all, range_with_len}
 use Rattle.geo_base.specs.declared.marker.ClusterPosition.{ClusterPosition}
@@ -8,10 +8,7 @@ use Rattle.geo_base.specs.Audit.{covers, index_named, position_named}
 use Rattle.geo_base.specs.Mirror.{Mirrors, mirror_at, mirror_number}
 use Rattle.geo_base.specs.Setup.{Setup}
 use Rattle.audit.specs.Appends.{covers_other}
-
-one_cluster : (p : ℕ → Bool) (c n : ℕ) → c < n → list_all p (range_with_len c (n - c)) ≡ (p c && list_all p (range_with_len (c + 1) (n - (c + 1))))
-one_cluster p c n lt =
-    let more : n - c ≡ suc (n - (c + 1)) = omega (arith, lt) in ap (λ (k : ℕ). list_all p (range_with_len c k)) more
+use Rattle.geo_base.proofs.Lists.{range_first}
 
 -- what a cut asks of one cluster
 abbrev pub is_cut_at : Setup → Mirrors → ℕ → ℕ → List ClusterPosition → ℕ → ℕ → Bool
@@ -27,7 +24,7 @@ other_cut s a b t x remote l y here there o r same at_here at_there named other 
     rw other (rw is (rw same (rw at_here (rw at_there (rw named refl)))))
 
 pub cut_goes_on : (p : ℕ → Bool) (y n : ℕ) → y < n → p y ≡ true → list_all p (range_with_len y (n - y)) ≡ list_all p (range_with_len (y + 1) (n - (y + 1)))
-cut_goes_on p y n lt holds = one_cluster p y n lt ∙ ap (λ (b : Bool). b && list_all p (range_with_len (y + 1) (n - (y + 1)))) holds
+cut_goes_on p y n lt holds = range_first p y n lt ∙ ap (λ (b : Bool). b && list_all p (range_with_len (y + 1) (n - (y + 1)))) holds
 
 pub cut_ends : (p : ℕ → Bool) (y n : ℕ) → y < n → p y ≡ false → list_all p (range_with_len y (n - y)) ≡ false
-cut_ends p y n lt fails = one_cluster p y n lt ∙ ap (λ (b : Bool). b && list_all p (range_with_len (y + 1) (n - (y + 1)))) fails
+cut_ends p y n lt fails = range_first p y n lt ∙ ap (λ (b : Bool). b && list_all p (range_with_len (y + 1) (n - (y + 1)))) fails

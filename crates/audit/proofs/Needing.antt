@@ -13,7 +13,9 @@ use Rattle.geo_base.specs.Entry.{is_data, meant_for}
 use Rattle.geo_base.specs.Mirror.{Mirror, no_mirror}
 use Rattle.audit.specs.Covers.{AreCovers, AreCoversOf, AreNeeded, IsMissing, NeededHere, NeedsHere, entries_of, is_covered_in, last_needed}
 use Rattle.audit.specs.Stored.{StandsAt, StandsNowhere}
-use Rattle.audit.proofs.EntryPassing.{some_at}
+use Rattle.audit.proofs.EntryAcks.{some_at}
+use Rattle.geo_base.proofs.Bools.{and_with_false, and_with_true}
+use Rattle.geo_base.proofs.Lists.{index_before_push, index_pushed, length_push}
 
 -- ---- one entry
 
@@ -42,29 +44,6 @@ take_end xs k x at =
     let lt : k < length xs = slice_get_within xs k x at in
     let is : get_or xs k x ≡ x = same_Some (get_or xs k x) x (sym (some_at xs k x lt) ∙ at) in
     take_more xs k x lt ∙ ap (λ y. take k xs ++ y ∷ []) is
-
-index_before : (xs : List ℕ) (y i : ℕ) → i < length xs → slice_index (xs ++ y ∷ []) i ≡ slice_index xs i
-index_before [] y i lt = absurd (omega (arith, lt))
-index_before (x ∷ xs) y zero lt = refl
-index_before (x ∷ xs) y (suc i) lt = index_before xs y i (omega (arith, lt))
-
-index_last : (xs : List ℕ) (y i : ℕ) → i ≡ length xs → slice_index (xs ++ y ∷ []) i ≡ y
-index_last [] y zero is = refl
-index_last [] y (suc i) is = absurd (omega (arith, is))
-index_last (x ∷ xs) y zero is = absurd (omega (arith, is))
-index_last (x ∷ xs) y (suc i) is = index_last xs y i (omega (arith, is))
-
-length_more : {X : Type 0} (xs : List X) (x : X) → length (xs ++ x ∷ []) ≡ length xs + 1
-length_more [] x = refl
-length_more (y ∷ xs) x = let rest = length_more xs x in omega (arith, rest)
-
-and_true : (b : Bool) → (b && true) ≡ b
-and_true true = refl
-and_true false = refl
-
-and_false : (b : Bool) → (b && false) ≡ false
-and_false true = refl
-and_false false = refl
 
 -- ---- one entry more
 
@@ -95,22 +74,22 @@ needed_more here there c f count h lt at needs = record {
   within = omega (arith, size, lt);
   bounded = λ k small.
       elim (cases_lt k (length c.needed)) [
-        | inl old ↦ rw (index_before c.needed v k old) (h.bounded k old)
+        | inl old ↦ rw (index_before_push c.needed v k old) (h.bounded k old)
         | inr past ↦
             let a = last_within here there c h in let b = needs.0 in
-            rw (index_last c.needed v k (omega (arith, past, small, size))) (omega (arith, a, b))
+            rw (index_pushed c.needed v k (omega (arith, past, small, size))) (omega (arith, a, b))
       ];
   least = λ k n small.
       elim (cases_lt k (length c.needed)) [
-        | inl old ↦ h.least k n old ∙ ap (λ (s : ℕ). nat_le s n) (sym (index_before c.needed v k old))
+        | inl old ↦ h.least k n old ∙ ap (λ (s : ℕ). nat_le s n) (sym (index_before_push c.needed v k old))
         | inr past ↦
             let is : k ≡ length c.needed = omega (arith, past, small, size) in
             ap (λ (j : ℕ). list_all (is_covered_in c.own here n) (take (j + 1) there)) is
             ∙ (ap (list_all (is_covered_in c.own here n)) (take_end there (length c.needed) f at)
             ∙ (list_all-append (is_covered_in c.own here n) (take (length c.needed) there) (f ∷ [])
             ∙ (ap (λ (b : Bool). b && (is_covered_in c.own here n f && true)) (so_far here there c n h)
-            ∙ (ap (λ (b : Bool). nat_le (last_needed c.needed) n && b) (and_true (is_covered_in c.own here n f) ∙ needs.1 n)
-            ∙ (max_le (last_needed c.needed) count n ∙ ap (λ (s : ℕ). nat_le s n) (sym (index_last c.needed v k is)))))))
+            ∙ (ap (λ (b : Bool). nat_le (last_needed c.needed) n && b) (and_with_true (is_covered_in c.own here n f) ∙ needs.1 n)
+            ∙ (max_le (last_needed c.needed) count n ∙ ap (λ (s : ℕ). nat_le s n) (sym (index_pushed c.needed v k is)))))))
       ];
 }
   where
@@ -118,7 +97,7 @@ needed_more here there c f count h lt at needs = record {
     v = max (last_needed c.needed) count
 
     size : length (c.needed ++ v ∷ []) ≡ length c.needed + 1
-    size = length_more c.needed v
+    size = length_push c.needed v
 
 pub needed_none : (here there : List Entry) (x k : ℕ) → AreNeeded here there (record { own = x; there = k; needed = [] })
 needed_none here there x k = record { within = omega arith; bounded = λ i lt. absurd (omega (arith, lt)); least = λ i n lt. absurd (omega (arith, lt)) }
@@ -128,7 +107,7 @@ pub one_missing : (p : Entry → Bool) (es : List Entry) (to k : ℕ) (f : Entry
 one_missing p [] to k f lt at fails = absurd (none-some f at)
 one_missing p (e ∷ es) zero k f lt at fails = absurd (omega (arith, lt))
 one_missing p (e ∷ es) (suc to) zero f lt at fails = rw (ap p (same_Some e f at) ∙ fails) refl
-one_missing p (e ∷ es) (suc to) (suc k) f lt at fails = rw (one_missing p es to k f (omega (arith, lt)) at fails) (and_false (p e))
+one_missing p (e ∷ es) (suc to) (suc k) f lt at fails = rw (one_missing p es to k f (omega (arith, lt)) at fails) (and_with_false (p e))
 
 -- ---- topics that grow
 

@@ -16,9 +16,6 @@ finds_none = record { at = λ k v at. absurd (none-some v at) }
 
 -- ---- a row more
 
-text_self : (n : List ℕ) → bytes_eq n n ≡ true
-text_self n = (bytes_eq-Decides n n).1 refl
-
 pub slot_noted : (rows : List SlotRow) (t : String Global) (k : ℕ) (n : List ℕ) → slot_in n (insert_entry string_eq rows t k) ≡ (if bytes_eq n (string_bytes t) then Some k else slot_in n rows)
 slot_noted [] t k n = refl
 slot_noted (r ∷ rows) t k n = by (string_eq t r.0) refl (slot_noted rows t k n)
@@ -48,7 +45,7 @@ slot_noted (r ∷ rows) t k n = by (string_eq t r.0) refl (slot_noted rows t k n
         let other : n ≡ string_bytes t = (bytes_eq-Decides n (string_bytes t)).0 b in
         false≢true (sym e ∙ (bytes_eq-Decides (string_bytes t) (string_bytes r.0)).1 (sym other ∙ mine)))
 
--- where a slot stands among those with one more behind them
+-- where a slot stands among those with one more after them
 behind : (slots : List Slot) (o : Slot) (k : ℕ) (v : MirrorSub) → slot_at (slots ++ o ∷ []) k ≡ Some v → (slot_at slots k ≡ Some v) × (k < length slots) ⊎ (k ≡ length slots) × (o ≡ Some v)
 behind [] o zero v at = inr (refl, at)
 behind [] o (suc k) v at = absurd (none-some v at)

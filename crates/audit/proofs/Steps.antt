@@ -1,16 +1,12 @@
 -- One step of a loop over clusters or over positions.
-use Rattle.std.proofs.Common.{◌≡◌, ℕ, suc, ◌+◌, ◌-◌, ◌<◌, Bool, false, List, [], ◌∷◌, length, arith, ap, refl}
-use Rattle.std.specs.Prelude.{◌≢◌, ◌&&◌, None, slice_get}
-use Rattle.std.specs.List.{list_all, range_with_len}
+use Rattle.std.proofs.Common.{◌≡◌, suc, ◌-◌, false, List, [], ◌∷◌, length, arith, ap, refl}
+use Rattle.std.specs.Prelude.{◌≢◌, None, slice_get}
 use Rattle.geo_base.specs.declared.marker.ClusterPosition.{ClusterPosition}
 use Rattle.geo_base.specs.declared.position.Position.{Position}
 use Rattle.geo_base.specs.Audit.{same_pairs}
 use Rattle.geo_base.specs.TraceItems.{same_positions}
 use Rattle.audit.specs.Named.{only_of}
-
-pub one_cluster : (p : ℕ → Bool) (c n : ℕ) → c < n → list_all p (range_with_len c (n - c)) ≡ (p c && list_all p (range_with_len (c + 1) (n - (c + 1))))
-one_cluster p c n lt =
-    let more : n - c ≡ suc (n - (c + 1)) = omega (arith, lt) in ap (λ (k : ℕ). list_all p (range_with_len c k)) more
+pub use Rattle.geo_base.proofs.Lists.{range_first as one_cluster}
 
 pub pairs_differ : (ps qs : List ClusterPosition) → length ps ≢ length qs → same_pairs ps qs ≡ false
 pairs_differ [] [] differ = absurd (differ refl)

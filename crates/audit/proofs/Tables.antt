@@ -20,6 +20,8 @@ use Rattle.indexmap.specs.IndexMap.{insert_entry}
 use Rattle.topic_store.proofs.Tells.{tells_more, tells_none}
 use Rattle.audit.specs.declared.identity.Identity.{Identity}
 use Rattle.audit.specs.Stored.{AreTold, Ascend, FindsAll, Row, StandsAt, StandsNowhere, identity_of, is_identity, is_same_at, place_in}
+use Rattle.geo_base.proofs.Bools.{and_first, and_of_both, and_second, ifs_swap}
+use Rattle.geo_base.proofs.Lists.{length_push, take_whole}
 
 -- ---- identities
 
@@ -28,40 +30,27 @@ record SameParts (a b : Identity) : Type 0 where
   producer : a.producer ≡ b.producer
   seq : a.seq ≡ b.seq
 
-and_left : (a b : Bool) → (a && b) ≡ true → a ≡ true
-and_left true b h = refl
-and_left false b h = absurd (false≢true h)
-
-and_right : (a b : Bool) → (a && b) ≡ true → b ≡ true
-and_right true b h = h
-and_right false b h = absurd (false≢true h)
-
-and_both : (a b : Bool) → a ≡ true → b ≡ true → (a && b) ≡ true
-and_both true true h k = refl
-and_both true false h k = absurd (false≢true k)
-and_both false b h k = absurd (false≢true h)
-
 same_parts : (a b : Identity) → is_identity a b ≡ true → SameParts a b
 same_parts a b h =
     let o = a.origin == b.origin in let p = bytes_eq a.producer b.producer in let s = a.seq == b.seq in
-    let both = and_left (o && p) s h in
+    let both = and_first (o && p) s h in
     record {
-      origin = eqb-true a.origin b.origin (and_left o p both);
-      producer = (bytes_eq-Decides a.producer b.producer).0 (and_right o p both);
-      seq = eqb-true a.seq b.seq (and_right (o && p) s h);
+      origin = eqb-true a.origin b.origin (and_first o p both);
+      producer = (bytes_eq-Decides a.producer b.producer).0 (and_second o p both);
+      seq = eqb-true a.seq b.seq (and_second (o && p) s h);
     }
 
 is_identity-self : (a : Identity) → is_identity a a ≡ true
 is_identity-self a =
     let o : (a.origin == a.origin) ≡ true = grind (arith, nat_tests) in
     let s : (a.seq == a.seq) ≡ true = grind (arith, nat_tests) in
-    and_both ((a.origin == a.origin) && bytes_eq a.producer a.producer) (a.seq == a.seq) (and_both (a.origin == a.origin) (bytes_eq a.producer a.producer) o ((bytes_eq-Decides a.producer a.producer).1 refl)) s
+    and_of_both ((a.origin == a.origin) && bytes_eq a.producer a.producer) (a.seq == a.seq) (and_of_both (a.origin == a.origin) (bytes_eq a.producer a.producer) o ((bytes_eq-Decides a.producer a.producer).1 refl)) s
 
 identity_from : (a b : Identity) → SameParts a b → is_identity a b ≡ true
 identity_from a b h =
     let o : (a.origin == b.origin) ≡ true = let e = h.origin in grind (arith, nat_tests, e) in
     let s : (a.seq == b.seq) ≡ true = let e = h.seq in grind (arith, nat_tests, e) in
-    and_both ((a.origin == b.origin) && bytes_eq a.producer b.producer) (a.seq == b.seq) (and_both (a.origin == b.origin) (bytes_eq a.producer b.producer) o ((bytes_eq-Decides a.producer b.producer).1 h.producer)) s
+    and_of_both ((a.origin == b.origin) && bytes_eq a.producer b.producer) (a.seq == b.seq) (and_of_both (a.origin == b.origin) (bytes_eq a.producer b.producer) o ((bytes_eq-Decides a.producer b.producer).1 h.producer)) s
 
 -- ---- a row more
 
@@ -70,11 +59,6 @@ one_test true true x y z e = refl
 one_test false false x y z e = refl
 one_test true false x y z e = absurd (false≢true (sym e))
 one_test false true x y z e = absurd (false≢true e)
-
-turned : (a b : Bool) (x y z : Option ℕ) → (a ≡ true → b ≡ true → ⊥) → (if a then x else if b then y else z) ≡ (if b then y else if a then x else z)
-turned true true x y z h = absurd (h refl refl)
-turned true false x y z h = refl
-turned false b x y z h = refl
 
 pub place_noted : (rows : List Row) (k : Identity) (v : ℕ) (q : Identity) → place_in (insert_entry is_identity rows k v) q ≡ (if is_identity q k then Some v else place_in rows q)
 place_noted [] k v q = refl
@@ -88,7 +72,7 @@ place_noted (r ∷ rows) k v q = by (is_identity k r.0) refl (place_noted rows k
     by true e ih = one_test (is_identity q r.0) (is_identity q k) (Some v) (Some r.1) (place_in rows q) (right e)
     by false e ih =
         ap (λ (o : Option ℕ). if is_identity q r.0 then Some r.1 else o) ih
-        ∙ turned (is_identity q r.0) (is_identity q k) (Some r.1) (Some v) (place_in rows q)
+        ∙ ifs_swap (is_identity q r.0) (is_identity q k) (Some r.1) (Some v) (place_in rows q)
         (λ a b.
         let p = same_parts q r.0 a in let s = same_parts q k b in
         false≢true (sym e ∙ identity_from k r.0 (record { origin = sym s.origin ∙ p.origin; producer = sym s.producer ∙ p.producer; seq = sym s.seq ∙ p.seq })))
@@ -103,21 +87,21 @@ accepted_new (g ∷ es) e f zero h at =
     P x = (not (same_stream x.ident e.ident) || nat_lt x.ident.seq e.ident.seq) ≡ true
 
     new : P f
-    new = subst P (same_Some g f at) (and_left (not (same_stream g.ident e.ident) || nat_lt g.ident.seq e.ident.seq) (accepts es e.ident) h)
+    new = subst P (same_Some g f at) (and_first (not (same_stream g.ident e.ident) || nat_lt g.ident.seq e.ident.seq) (accepts es e.ident) h)
 
     by : (b : Bool) → is_identity (identity_of f.ident) (identity_of e.ident) ≡ b → is_identity (identity_of f.ident) (identity_of e.ident) ≡ false
     by false is = is
     by true is =
-        let stream : same_stream f.ident e.ident ≡ true = and_left (same_stream f.ident e.ident) (f.ident.seq == e.ident.seq) is in
-        let seq : f.ident.seq ≡ e.ident.seq = eqb-true f.ident.seq e.ident.seq (and_right (same_stream f.ident e.ident) (f.ident.seq == e.ident.seq) is) in
+        let stream : same_stream f.ident e.ident ≡ true = and_first (same_stream f.ident e.ident) (f.ident.seq == e.ident.seq) is in
+        let seq : f.ident.seq ≡ e.ident.seq = eqb-true f.ident.seq e.ident.seq (and_second (same_stream f.ident e.ident) (f.ident.seq == e.ident.seq) is) in
         absurd (less (same_stream f.ident e.ident) stream new seq)
       where
         less : (s : Bool) → s ≡ true → (not s || nat_lt f.ident.seq e.ident.seq) ≡ true → f.ident.seq ≡ e.ident.seq → ⊥
         less true k lt same = let l = ltb-true f.ident.seq e.ident.seq lt in omega (arith, l, same)
         less false k lt same = false≢true k
-accepted_new (g ∷ es) e f (suc i) h at = accepted_new es e f i (and_right (not (same_stream g.ident e.ident) || nat_lt g.ident.seq e.ident.seq) (accepts es e.ident) h) at
+accepted_new (g ∷ es) e f (suc i) h at = accepted_new es e f i (and_second (not (same_stream g.ident e.ident) || nat_lt g.ident.seq e.ident.seq) (accepts es e.ident) h) at
 
--- what stands in a list with one more behind it
+-- what stands in a list with one more after it
 pub behind : {X : Type 0} (xs : List X) (y : X) (i : ℕ) (x : X) → slice_get (xs ++ y ∷ []) i ≡ Some x → (slice_get xs i ≡ Some x) ⊎ (i ≡ length xs) × (y ≡ x)
 behind [] y zero x at = inr (refl, same_Some y x at)
 behind [] y (suc i) x at = absurd (none-some x at)
@@ -167,13 +151,9 @@ get_last [] p d (suc i) is = absurd (omega (arith, is))
 get_last (q ∷ ps) p d zero is = absurd (omega (arith, is))
 get_last (q ∷ ps) p d (suc i) is = get_last ps p d i (omega (arith, is))
 
-length_more : {X : Type 0} (xs : List X) (x : X) → length (xs ++ x ∷ []) ≡ length xs + 1
-length_more [] x = refl
-length_more (y ∷ xs) x = let rest = length_more xs x in omega (arith, rest)
-
 ascend_more : (ps : List Position) (p : Position) → Ascend ps → is_above ps p ≡ true → Ascend (ps ++ p ∷ [])
 ascend_more ps p h above i j d lt within =
-    let size = length_more ps p in
+    let size = length_push ps p in
     elim (cases_lt j (length ps)) [
       | inl old ↦ rw (get_before ps p d i (omega (arith, lt, old)), get_before ps p d j old) (h i j d lt old)
       | inr past ↦ rw (get_before ps p d i (omega (arith, lt, within, size)), get_last ps p d j (omega (arith, past, within, size))) (above_each ps p d i h above (omega (arith, lt, within, size)))
@@ -195,7 +175,7 @@ told_more streams rows es ps e p h above new = record {
   told = tells_more streams es e h.told new;
   finds = finds_more rows es e h.finds new;
   ascend = ascend_more ps p h.ascend above;
-  sized = let same = h.sized in let a = length_more ps p in let b = length_more es e in omega (arith, same, a, b);
+  sized = let same = h.sized in let a = length_push ps p in let b = length_push es e in omega (arith, same, a, b);
 }
 
 -- ---- where a position is
@@ -258,7 +238,7 @@ index_missing ps p d at h le point other = index_none 0 ps p d each
 same_is : (e f : Entry) → same_entry e f ≡ true → is_identity (identity_of f.ident) (identity_of e.ident) ≡ true
 same_is e f h =
     let r1 = bytes_eq e.payload f.payload in
-    let ident : same_ident e.ident f.ident ≡ true = and_left (same_ident e.ident f.ident) (same_targets e.to f.to) (and_left _ _ (and_left _ _ (and_left _ r1 h))) in
+    let ident : same_ident e.ident f.ident ≡ true = and_first (same_ident e.ident f.ident) (same_targets e.to f.to) (and_first _ _ (and_first _ _ (and_first _ r1 h))) in
     let p = same_parts (identity_of e.ident) (identity_of f.ident) ident in
     identity_from (identity_of f.ident) (identity_of e.ident) (record { origin = sym p.origin; producer = sym p.producer; seq = sym p.seq })
 
@@ -290,8 +270,8 @@ any_at p (e ∷ es) (suc n) (suc i) f lt at h = rw (any_at p es n i f (omega (ar
     or_true false = refl
 
 -- each entry that is the same stands where the table says
-same_place : (rows : List Row) (es : List Entry) (e f : Entry) (i : ℕ) → FindsAll rows es → slice_get es i ≡ Some f → same_entry e f ≡ true → place_in rows (identity_of e.ident) ≡ Some i
-same_place rows es e f i h at same =
+same_cluster_ref : (rows : List Row) (es : List Entry) (e f : Entry) (i : ℕ) → FindsAll rows es → slice_get es i ≡ Some f → same_entry e f ≡ true → place_in rows (identity_of e.ident) ≡ Some i
+same_cluster_ref rows es e f i h at same =
     let p = same_parts (identity_of f.ident) (identity_of e.ident) (same_is e f same) in
     subst (λ (k : Identity). place_in rows k ≡ Some i) (parts_one (identity_of f.ident) (identity_of e.ident) p) (h.at i f at)
   where
@@ -312,7 +292,7 @@ stands_at rows es e f i h found at same = record { within = slice_get_within es 
         by false is past = let out : nat_lt i n ≡ false = grind (arith, nat_tests, past) in is ∙ sym out
         by true is past =
             let r = any_take (same_entry e) es n is in
-            let one : r.index ≡ i = same_Some r.index i (sym (same_place rows es e r.entry r.index h r.at r.passes) ∙ found) in
+            let one : r.index ≡ i = same_Some r.index i (sym (same_cluster_ref rows es e r.entry r.index h r.at r.passes) ∙ found) in
             absurd (let lt = r.below in omega (arith, lt, one, past))
 
 stands_nowhere : (rows : List Row) (es : List Entry) (e : Entry) → FindsAll rows es → ((i : ℕ) (f : Entry) → place_in rows (identity_of e.ident) ≡ Some i → slice_get es i ≡ Some f → same_entry e f ≡ false) → StandsNowhere e es
@@ -322,7 +302,7 @@ stands_nowhere rows es e h other n = by (list_any (same_entry e) (take n es)) re
     by false is = is
     by true is =
         let r = any_take (same_entry e) es n is in
-        absurd (false≢true (sym (other r.index r.entry (same_place rows es e r.entry r.index h r.at r.passes) r.at) ∙ r.passes))
+        absurd (false≢true (sym (other r.index r.entry (same_cluster_ref rows es e r.entry r.index h r.at r.passes) r.at) ∙ r.passes))
 
 -- the table has no place; the entry stands at the place that it has; or another one does, or none
 pub stands_unknown : (rows : List Row) (es : List Entry) (e : Entry) → FindsAll rows es → place_in rows (identity_of e.ident) ≡ None → StandsNowhere e es
@@ -342,17 +322,13 @@ stands_other rows es e k h is differs =
     let same : k ≡ i = same_Some k i (sym is ∙ found) in
     sym (ap (is_same_at e) (ap (slice_get es) same ∙ there)) ∙ differs)
 
-take_all : {X : Type 0} (xs : List X) → take (length xs) xs ≡ xs
-take_all [] = refl
-take_all (x ∷ xs) = ap (λ ys. x ∷ ys) (take_all xs)
-
 pub stands : (e : Entry) (es : List Entry) (i : ℕ) → StandsAt e es i → list_any (same_entry e) es ≡ true
-stands e es i h = ap (list_any (same_entry e)) (sym (take_all es)) ∙ (h.only (length es) ∙ lt-ltb i (length es) h.within)
+stands e es i h = ap (list_any (same_entry e)) (sym (take_whole es)) ∙ (h.only (length es) ∙ lt-ltb i (length es) h.within)
 
 pub stands_not : (e : Entry) (es : List Entry) → StandsNowhere e es → list_any (same_entry e) es ≡ false
-stands_not e es h = ap (list_any (same_entry e)) (sym (take_all es)) ∙ h (length es)
+stands_not e es h = ap (list_any (same_entry e)) (sym (take_whole es)) ∙ h (length es)
 
--- the tables behind an append
+-- the tables after an append
 pub told_after : (streams streams' : List StreamRow) (rows rows' : List Row) (es es' : List Entry) (ps ps' : List Position) (e : Entry) (p : Position) → AreTold streams rows es ps
     → is_above ps p ≡ true → accepts es e.ident ≡ true → streams' ≡ noted streams (stream_of e.ident) e.ident.seq → rows' ≡ insert_entry is_identity rows (identity_of e.ident) (length es)
     → es' ≡ es ++ e ∷ [] → ps' ≡ ps ++ p ∷ [] → AreTold streams' rows' es' ps'

@@ -13,7 +13,7 @@ abbrev pub covers_other : Mirrors → Pair → ℕ → Option Position → Bool
 covers_other a p l remote =
     covers p.own (slice_index_or a.topics p.here no_mirror) (slice_index_or a.topics p.there no_mirror) l (index_named (slice_index_or a.topics p.there no_mirror) remote)
 
--- what an entry may break where it stands; what it may break beside is judged behind it
+-- what an entry may break where it stands; what it may break beside is judged after it
 abbrev pub place_refused : Setup → Mirrors → ℕ → ℕ → Position → Entry → Option ℕ → Option ℕ
 place_refused s a t x p e rest =
     unless_broken 2 (is_above (mirror_at s a t x).positions p)

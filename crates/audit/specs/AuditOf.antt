@@ -18,7 +18,7 @@ use Rattle.audit.specs.declared.strictness.Strictness.TheVariants as strictness
 abbrev pub names_of : Setup → DeclaredNames
 names_of s = record { clusters = s.clusters; topics = s.topics }
 
--- a write stands behind an event
+-- a write stands after an event
 abbrev pub may_come : ℕ → Item → Bool
 may_come events (Begins n) = true
 may_come events (Writes t x a) = nat_lt 0 events
@@ -32,7 +32,7 @@ abbrev pub told_if : Setup → Mirrors → Option Item → Mirrors
 told_if s a None = a
 told_if s a (Some i) = told s a i
 
--- A line ends with a line feed. What stands behind the last one is a line only where there is a byte, and breaks the first rule
+-- A line ends with a line feed. What stands after the last one is a line only where there is a byte, and breaks the first rule
 abbrev pub lines_audited : Strictness → Setup → Mirrors → List (List ℕ) → Result ℕ Refusal
 lines_audited k s a [] = Ok a.events
 lines_audited k s a (l ∷ []) = if length l == 0 then Ok a.events else Err (record { event = a.events; rule = 1 })
@@ -44,7 +44,7 @@ abbrev pub headed : Strictness → Setup → List (List ℕ) → Result ℕ Refu
 headed k s (h ∷ l ∷ ls) = if bytes_eq h (codes "trace") then lines_audited k s (opening_mirrors s) (l ∷ ls) else Err (record { event = 0; rule = 1 })
 headed k s ls = Err (record { event = 0; rule = 1 })
 
--- the number of events; or the number of the last event that was accepted, and the lowest rule that the line behind breaks
+-- the number of events; or the number of the last event that was accepted, and the lowest rule that the line after breaks
 unfoldable pub audit_by : Strictness → Setup → List ℕ → Result ℕ Refusal
 audit_by k s bytes = headed k s (cut_by 10 bytes)
 
@@ -53,7 +53,7 @@ abbrev pub audit_of : Setup → List ℕ → Result ℕ Refusal
 audit_of s bytes = audit_by strictness.Plain s bytes
 
 -- What an accepted trace says. Between its line feeds stand `trace` and then one line for each of some items, and nothing stands
--- behind the last line feed. Their numbers are those of the setup, no item breaks a rule, and so many events have begun. However
+-- after the last line feed. Their numbers are those of the setup, no item breaks a rule, and so many events have begun. However
 -- strictly it was judged, no item breaks a rule of `Audit`
 pub record IsAccepted (k : Strictness) (s : Setup) (bytes : List ℕ) (events : ℕ) : Type 0 where
   pub lines : List (List ℕ)

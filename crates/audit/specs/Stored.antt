@@ -44,7 +44,7 @@ pub record AreTold (streams : List StreamRow) (rows : List Row) (es : List Entry
   pub ascend : Ascend ps
   pub sized : length ps ≡ length es
 
--- the one index at which an entry stands: among the first so many entries it stands where these reach behind the index
+-- the one index at which an entry stands: among the first so many entries it stands where these reach after the index
 pub record StandsAt (e : Entry) (es : List Entry) (i : ℕ) : Type 0 where
   pub within : i < length es
   pub only : (n : ℕ) → list_any (same_entry e) (take n es) ≡ nat_lt i n

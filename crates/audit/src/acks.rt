@@ -6,13 +6,13 @@ ghost use Rattle.geo_base.specs.Audit.{cause_refused, entry_by, unless_broken};
 ghost use Rattle.audit.specs.Acks.{acks_refused, create_refused, delete_refused, followed, follows_all, seek_refused, told_position};
 
 use crate::named::only_position;
-use crate::runs::{Passed, end_by};
+use crate::runs::{AckCause, end_by};
 use crate::topic::TopicMirror;
 use geo_base::{Cause, Content, Entry, Marker, Memory, Position, Text};
 use std::alloc::Global;
 use trace_lines::AckedRanges;
 
-/// A rule that has to hold, where nothing is judged behind it.
+/// A rule that has to hold, where nothing is judged after it.
 pub fn unless_broken(rule: u32, holds: bool) -> Option<u32>
     ensures { result ≡ unless_broken rule holds None }
 {
@@ -93,7 +93,10 @@ impl TopicMirror {
     {
         match acked.cause {
             Cause::Client => Ok(None),
-            Cause::Marker => Ok(unless_broken(9, self.pass(alloc, Passed::Markers, acked.ranges)?)),
+            Cause::Marker => Ok(unless_broken(
+                9,
+                self.pass(alloc, AckCause::Markers, acked.ranges)?,
+            )),
             Cause::Update(position) => {
                 let followed = self.followed(cluster, acked.sub, position);
                 Ok(unless_broken(10, self.follows(alloc, followed, acked.ranges)?))
@@ -132,7 +135,7 @@ impl TopicMirror {
                 if !end_by(ranges.as_slice(), followed.index) {
                     return Ok(false);
                 }
-                self.pass(alloc, Passed::By(followed.cluster), ranges)
+                self.pass(alloc, AckCause::By(followed.cluster), ranges)
             }
         }
     }

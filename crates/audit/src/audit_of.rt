@@ -36,7 +36,7 @@ pub fn audit(
     audit_lines(alloc, scenario, strictness, lines)
 }
 
-/// Audits the lines of a trace behind `trace`.
+/// Audits the lines of a trace after `trace`.
 fn audit_lines(
     alloc: Global,
     scenario: &Scenario,

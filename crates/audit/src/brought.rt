@@ -143,7 +143,7 @@ impl BroughtList {
         }
     }
 
-    /// Where a way to the topic of number `here` stands, behind the others where it was not asked for.
+    /// Where a way to the topic of number `here` stands, after the others where it was not asked for.
     fn place_for(
         &mut self,
         topics: &[TopicMirror],

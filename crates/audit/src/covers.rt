@@ -154,7 +154,7 @@ impl CoverList {
         }
     }
 
-    /// Where a pair stands, behind the others where it was not asked for.
+    /// Where a pair stands, after the others where it was not asked for.
     fn place_for(
         &mut self,
         alloc: Global,

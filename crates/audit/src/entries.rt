@@ -1,7 +1,7 @@
 //! What an audit asks of an entry.
 ghost use Rattle.std.specs.Prelude.{◌≡◌, ◌&&◌};
 ghost use Rattle.geo_base.specs.Entry.{is_data, meant_for};
-ghost use Rattle.geo_base.specs.Updating.{passes};
+ghost use Rattle.geo_base.specs.Updating.{is_updated};
 
 use geo_base::{Content, Entry};
 
@@ -24,8 +24,8 @@ pub fn is_meant_for(cluster: u32, entry: &Entry) -> bool
 }
 
 /// Whether an update of a cluster passes over an entry: over markers, and over what was meant for the cluster.
-pub fn passes(cluster: u32, entry: &Entry) -> bool
-    ensures { result ≡ passes cluster entry.now }
+pub fn is_updated(cluster: u32, entry: &Entry) -> bool
+    ensures { result ≡ is_updated cluster entry.now }
 {
     !is_data(&entry.content) || is_meant_for(cluster, entry)
 }

@@ -24,7 +24,7 @@ use script_text::Scenario;
 use std::alloc::Global;
 use trace_lines::{Line, Names, Written, begun_event, line_of};
 
-/// Whether a line may come where so many events have begun: a write stands behind an event.
+/// Whether a line may come where so many events have begun: a write stands after an event.
 fn may_come(events: u64, line: &Line) -> bool
     ensures { result ≡ may_come events (item_said line.now) }
 {
@@ -34,7 +34,7 @@ fn may_come(events: u64, line: &Line) -> bool
     }
 }
 
-/// Whether a number is the next one behind so many events.
+/// Whether a number is the next one after so many events.
 #[tactic(auto, using(crate::proofs::Judging::next_above, crate::proofs::Judging::not_next))]
 fn is_next(events: u64, number: u64) -> bool
     ensures { result ≡ (number == events + 1) }
@@ -283,7 +283,7 @@ impl AllMirrors {
     }
 
     /// Reads all lines of a text: how many events have begun, where no rule refuses one. A fault of a rule comes exactly where one
-    /// does, with the last event before the first such line and the lowest rule that refuses it. What stands behind the last line feed
+    /// does, with the last event before the first such line and the lowest rule that refuses it. What stands after the last line feed
     /// is a line only where there is a byte, and has no form.
     pub(crate) fn read_all(
         &mut self,

@@ -1,22 +1,22 @@
 //! The positions that a marker names for clusters.
 ghost use Rattle.std.specs.Prelude.{◌≡◌, ◌≤◌, length, slice_get, IfOk};
 ghost use Rattle.geo_base.specs.Audit.{is_named_once, names_each, position_named};
-ghost use Rattle.geo_base.specs.Entry.{is_place};
+ghost use Rattle.geo_base.specs.Entry.{means_cluster};
 ghost use Rattle.geo_base.specs.TraceItems.{names_same, same_positions};
 ghost use Rattle.geo_base.specs.Updating.{positions_for};
 ghost use Rattle.audit.specs.Named.{only_of};
 
 use crate::same::is_same_position;
-use geo_base::{ClusterPosition, Memory, Place, Position, Sequence};
+use geo_base::{ClusterPosition, ClusterRef, Memory, Position, Sequence};
 use std::alloc::Global;
 
 /// Whether a place is the cluster of a number.
-fn is_place(cluster: u32, place: &Place) -> bool
-    ensures { result ≡ is_place cluster place.now }
+fn means_cluster(cluster: u32, place: &ClusterRef) -> bool
+    ensures { result ≡ means_cluster cluster place.now }
 {
     match place {
-        Place::Known(other) => cluster == *other,
-        Place::Stranger(_) => false,
+        ClusterRef::Known(other) => cluster == *other,
+        ClusterRef::Stranger(_) => false,
     }
 }
 
@@ -27,7 +27,7 @@ fn count_for(cluster: u32, remote: &[ClusterPosition]) -> usize
 {
     let mut count = 0;
     for position in remote {
-        if is_place(cluster, &position.cluster) {
+        if means_cluster(cluster, &position.cluster) {
             count += 1;
         }
     }
@@ -39,7 +39,7 @@ pub fn first_position(cluster: u32, remote: &[ClusterPosition]) -> Option<Positi
     ensures { result ≡ position_named cluster remote.now }
 {
     for position in remote {
-        if is_place(cluster, &position.cluster) {
+        if means_cluster(cluster, &position.cluster) {
             return Some(position.position);
         }
     }
@@ -90,7 +90,7 @@ fn positions_for(
 {
     let mut positions = Sequence::new(alloc);
     for position in remote {
-        if is_place(cluster, &position.cluster) {
+        if means_cluster(cluster, &position.cluster) {
             positions.push(position.position)?;
         }
     }

@@ -3,9 +3,9 @@ ghost use Rattle.std.specs.Prelude.{◌≡◌, ◌≤◌, [], length, nat_le, On
 ghost use Rattle.std.specs.List.{list_all};
 ghost use Rattle.cursor_acks.specs.Acks.{from_to};
 ghost use Rattle.cursor_acks.specs.Ranges.{AreApart, indexes_of};
-ghost use Rattle.audit.specs.Runs.{AreRunsOf, all_passed, next_start, passed_by};
+ghost use Rattle.audit.specs.Runs.{AreRunsOf, all_acked_by, next_start, acked_by};
 
-use crate::entries::{is_data, passes};
+use crate::entries::{is_data, is_updated};
 use cursor_acks::IndexRange;
 use geo_base::{Entry, Memory};
 use std::alloc::Global;
@@ -14,19 +14,19 @@ use std::marker::Model;
 /// What passes over an entry: a marker's acknowledgement over markers alone, and that of an update of a cluster over markers and over
 /// what was meant for the cluster.
 #[derive(Clone, Copy, Drop, PartialEq)]
-pub enum Passed {
+pub enum AckCause {
     Markers,
     By(u32),
 }
 
-impl Passed {
+impl AckCause {
     /// Whether an entry may be passed over.
-    fn passes(&self, entry: &Entry) -> bool
-        ensures { result ≡ passed_by self.now entry.now }
+    fn may_ack(&self, entry: &Entry) -> bool
+        ensures { result ≡ acked_by self.now entry.now }
     {
         match self {
-            Passed::Markers => !is_data(&entry.content),
-            Passed::By(cluster) => passes(*cluster, entry),
+            AckCause::Markers => !is_data(&entry.content),
+            AckCause::By(cluster) => is_updated(*cluster, entry),
         }
     }
 }
@@ -35,7 +35,7 @@ impl Passed {
 /// the entry itself may not. So one look says whether all entries of a range may.
 #[derive(Drop)]
 pub struct Runs {
-    what: Passed,
+    what: AckCause,
     starts: Vec<u64>,
 }
 
@@ -49,7 +49,7 @@ impl Model for Runs {
 
 impl Runs {
     /// Of no entry yet; takes no memory.
-    pub fn new(alloc: Global, what: Passed) -> Runs
+    pub fn new(alloc: Global, what: AckCause) -> Runs
         ensures { result ≡ record { what = what; starts = [] } }
     {
         Runs {
@@ -59,7 +59,7 @@ impl Runs {
     }
 
     /// What passes over the entries.
-    pub fn what(&self) -> Passed
+    pub fn what(&self) -> AckCause
         ensures { result ≡ self.now.what }
     {
         self.what
@@ -70,7 +70,7 @@ impl Runs {
         ensures { result ≡ next_start self.now entry.now }
     {
         let len = self.starts.len();
-        if !self.what.passes(entry) {
+        if !self.what.may_ack(entry) {
             return len as u64 + 1;
         }
         if len == 0 {
@@ -94,11 +94,11 @@ impl Runs {
     }
 
     /// Whether all entries of a range may be passed over.
-    fn passes_range(&self, entries: &[Entry], range: IndexRange) -> bool
+    fn may_ack_range(&self, entries: &[Entry], range: IndexRange) -> bool
         requires order { range.first ≤ range.last }
         requires runs { AreRunsOf entries.now self.now }
         requires whole { length self.now.starts ≡ length entries.now }
-        ensures { result ≡ all_passed self.now.what entries.now (from_to range.first range.last) }
+        ensures { result ≡ all_acked_by self.now.what entries.now (from_to range.first range.last) }
     {
         let len = entries.len() as u64;
         range.last < len && self.starts[range.last as usize] <= range.first
@@ -109,10 +109,10 @@ impl Runs {
         requires apart { AreApart ranges.now }
         requires runs { AreRunsOf entries.now self.now }
         requires whole { length self.now.starts ≡ length entries.now }
-        ensures { result ≡ all_passed self.now.what entries.now (indexes_of ranges.now) }
+        ensures { result ≡ all_acked_by self.now.what entries.now (indexes_of ranges.now) }
     {
         for range in ranges {
-            if !self.passes_range(entries, *range) {
+            if !self.may_ack_range(entries, *range) {
                 return false;
             }
         }

@@ -1,12 +1,13 @@
 //! When two entries are the same: in what names them, for whom they are and what they are.
 ghost use Rattle.std.specs.Prelude.{◌≡◌};
-ghost use Rattle.geo_base.specs.Audit.{same_content, same_entry, same_key, same_marker, same_pair, same_pairs, same_place, same_targets};
+ghost use Rattle.geo_base.specs.Audit.{same_content, same_entry, same_key, same_marker, same_pair, same_pairs, same_cluster_ref, same_targets};
 ghost use Rattle.geo_base.specs.Entry.{same_ident};
 ghost use Rattle.geo_base.specs.Position.{same_position};
 ghost use Rattle.std.specs.Str.{bytes_eq};
 
 use geo_base::{
-    Blob, ClusterPosition, Content, Entry, Ident, Marker, Place, Position, Sequence, Targets, Text,
+    Blob, ClusterPosition, ClusterRef, Content, Entry, Ident, Marker, Position, Sequence, Targets,
+    Text,
 };
 
 /// Whether two entries are equal in identity, list, content, key and payload.
@@ -103,12 +104,12 @@ fn is_same_marker(marker: &Marker, other: &Marker) -> bool
     }
 }
 
-fn is_same_place(place: &Place, other: &Place) -> bool
-    ensures { result ≡ same_place place.now other.now }
+fn is_same_place(place: &ClusterRef, other: &ClusterRef) -> bool
+    ensures { result ≡ same_cluster_ref place.now other.now }
 {
     match (place, other) {
-        (Place::Known(cluster), Place::Known(other)) => *cluster == *other,
-        (Place::Stranger(name), Place::Stranger(other)) => is_same_text(name, other),
+        (ClusterRef::Known(cluster), ClusterRef::Known(other)) => *cluster == *other,
+        (ClusterRef::Stranger(name), ClusterRef::Stranger(other)) => is_same_text(name, other),
         _ => false,
     }
 }

@@ -114,7 +114,7 @@ impl SubSlots {
     }
 }
 
-/// Room for the slot of one more subscription, which the table finds there, behind the others; the table stays where memory is
+/// Room for the slot of one more subscription, which the table finds there, after the others; the table stays where memory is
 /// wanting.
 #[tactic(auto, using(crate::proofs::SlotRows::finds_more))]
 fn make_way(

@@ -106,7 +106,7 @@ impl Stored {
         }
     }
 
-    /// One more entry, behind the others; unchanged where memory is wanting.
+    /// One more entry, after the others; unchanged where memory is wanting.
     pub(crate) fn append(
         &mut self,
         alloc: Global,
@@ -132,7 +132,7 @@ impl Stored {
     }
 }
 
-/// Room for one more entry and its position; the tables tell that it stands behind the others. These and the positions stay, and so
+/// Room for one more entry and its position; the tables tell that it stands after the others. These and the positions stay, and so
 /// do the tables where memory is wanting.
 fn make_way(
     alloc: Global,

@@ -8,10 +8,10 @@ ghost use Rattle.geo_base.specs.Mirror.{acted, index_at, mirror_sub, no_mirror, 
 ghost use Rattle.geo_base.specs.Topic.{accepts};
 ghost use Rattle.geo_base.specs.TraceItems.{Creates, Deletes, Seeks};
 ghost use Rattle.trace_lines.specs.Said.{act_said};
-ghost use Rattle.audit.specs.Runs.{AreAllRunsOf, AreRunsOf, all_passed};
+ghost use Rattle.audit.specs.Runs.{AreAllRunsOf, AreRunsOf, all_acked_by};
 ghost use Rattle.audit.specs.Topic.{IsRunsFor, MayAct};
 
-use crate::runs::{Passed, Runs};
+use crate::runs::{AckCause, Runs};
 use crate::stored::Stored;
 use crate::sub::SubMirror;
 use crate::subs::Subs;
@@ -93,11 +93,11 @@ impl TopicMirror {
     pub(crate) fn pass(
         &mut self,
         alloc: Global,
-        what: Passed,
+        what: AckCause,
         ranges: &AckedRanges,
     ) -> Result<bool, Memory>
         ensures same { self.new ≡ self.old }
-        ensures pass { IfOk result (λ pass. pass ≡ all_passed what self.old.entries (indexes_of ranges.now)) }
+        ensures pass { IfOk result (λ pass. pass ≡ all_acked_by what self.old.entries (indexes_of ranges.now)) }
     {
         let entries = self.stored.entries();
         let place = runs_for(alloc, &mut self.runs, entries, what)?;
@@ -105,7 +105,7 @@ impl TopicMirror {
         Ok(self.runs[place].pass(entries, ranges.as_slice()))
     }
 
-    /// One more entry, behind the others; unchanged where memory is wanting.
+    /// One more entry, after the others; unchanged where memory is wanting.
     fn append(&mut self, alloc: Global, position: Position, entry: Entry) -> Result<(), Memory>
         requires above { is_above self.old.positions position ≡ true }
         requires new { accepts self.old.entries entry.ident ≡ true }
@@ -115,7 +115,7 @@ impl TopicMirror {
         self.stored.append(alloc, position, entry)
     }
 
-    /// A subscription begins: at Latest behind all that is stored. Unchanged where memory is wanting.
+    /// A subscription begins: at Latest after all that is stored. Unchanged where memory is wanting.
     fn create(&mut self, alloc: Global, sub: Text, latest: bool) -> Result<(), Memory>
         requires { mirror_sub self.old sub ≡ None }
         ensures ok { OnOk result (self.new ≡ acted self.old (Creates sub latest)) }
@@ -176,12 +176,12 @@ impl TopicMirror {
     }
 }
 
-/// Where the runs for a cause stand, behind the others where they were not asked for.
+/// Where the runs for a cause stand, after the others where they were not asked for.
 fn runs_for(
     alloc: Global,
     runs: &mut Vec<Runs>,
     entries: &[Entry],
-    what: Passed,
+    what: AckCause,
 ) -> Result<usize, Memory>
     requires { AreAllRunsOf entries.now runs.old.items }
     ensures runs { AreAllRunsOf entries.now runs.new.items }

@@ -55,7 +55,7 @@ fn passes<E: End, F: End>(alloc: Global, from: &mut E, to: &mut F) -> Result<Opt
 }
 
 /// Whether a packet passes from a list of packets over pieces and a ring into another list, and no second one.
-fn passes_all(alloc: Global) -> Result<bool, Memory> {
+fn are_all_updated(alloc: Global) -> Result<bool, Memory> {
     let mut list = ListEnd::new(alloc, 1)?;
     let passed = passes_list(alloc, &mut list);
     drop(list);
@@ -106,7 +106,7 @@ fn is_taken(alloc: Global, takes: &mut RingEnd, last: &mut ListEnd) -> Result<bo
 
 #[test]
 fn a_packet_passes_every_kind_of_end(rt: HostRuntime) -> Result<(), Fail> {
-    let passed = passes_all(rt.alloc())?;
+    let passed = are_all_updated(rt.alloc())?;
     assert!(rt; passed);
     Ok(())
 }

@@ -1,6 +1,6 @@
 //! What no contract says: that memory suffices. The expected steps are those of PCG's reference code and of the rules in words.
 use geo_base::{Event, Fate, Step};
-use script_inputs::*;
+use script_generator::*;
 use script_text::StepList;
 use std::process::Abort;
 use std::test::Fail;

@@ -1,4 +1,4 @@
-//! Tests of what has no broker: `geo_base` and `geo_io`; scripts (`script_rows`, `script_text`, `script_inputs`); and what is on the
+//! Tests of what has no broker: `geo_base` and `geo_io`; scripts (`script_rows`, `script_text`, `script_generator`); and what is on the
 //! wire and at its ends, the codecs, the ends of links, and a client. They stand in a crate of their own, since a crate with tests is
 //! proved a second time with them, and in one, since each such crate costs the gate most of a minute whatever it holds.
 #![tactic(auto)]

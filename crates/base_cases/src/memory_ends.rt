@@ -153,7 +153,7 @@ fn overflows(sink: &mut SteadySink<'_>) -> bool {
     is_kept(sink, b"abc", b"abc") && sink.write(b"defg") == Ok(4) && is_kept(sink, b"h", b"abcde")
 }
 
-/// Whether a write succeeds, behind which the sink keeps these bytes.
+/// Whether a write succeeds, after which the sink keeps these bytes.
 fn is_kept(sink: &mut SteadySink<'_>, bytes: &[u8], kept: &[u8]) -> bool {
     write_all(sink, bytes).is_ok() && sink.bytes() == kept
 }

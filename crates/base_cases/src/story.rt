@@ -53,7 +53,7 @@ const MESSAGE_TO_9: &[u8] =
 /// and `flow` lines in force, publishes without receipt, messages held and got, and receipts, duplicates and errors.
 pub type Row = (Act, usize, State);
 
-/// A row behind what happens and what is sent.
+/// A row after what happens and what is sent.
 pub type State = (usize, &'static [Option<usize>], [usize; 3], [u64; 3]);
 
 pub const ROWS: &[Row] = &[

@@ -16,7 +16,7 @@ use Rattle.frame_values.proofs.One.{value_one}
 use Rattle.frame_laws.specs.BytePackets.{StandsForPacket, bare_packet}
 use Rattle.frame_laws.proofs.Bare.{receipt_bare, serve_bare, take_bare}
 use Rattle.wire_ends.specs.declared.packet.WirePacket.{WirePacket}
-use Rattle.broker_state.specs.Plan.{PlanBook}
+use Rattle.broker_state.specs.Plan.{PlanView}
 use Rattle.broker_plans.specs.Prepared.{IsPrepared}
 use Rattle.broker.specs.Events.{plan_at}
 use Rattle.broker_plans.specs.declared.usual.Came.{Came}
@@ -60,7 +60,7 @@ read_plan h names b e (Some k) (Some q) None reads stands = absurd stands
 read_plan h names b e (Some k) (Some q) (Some p) reads stands =
     rw (is_bare h.clusters k q p reads stands) (bare_plan h names b e p)
 
-pub prepared_for : (h : Site) (names : List (List ℕ)) (b : Broker) (e : Event) (i : Option WirePacket) (v : Option Packet) (p : PlanBook) (r : Result (Unit {0}) Memory)
+pub prepared_for : (h : Site) (names : List (List ℕ)) (b : Broker) (e : Event) (i : Option WirePacket) (v : Option Packet) (p : PlanView) (r : Result (Unit {0}) Memory)
     → OnOk r (IsInputPrepared h b (plan_at h names b e) i p) → StandsForInput h.clusters i v → OnOk r (IsPrepared h b (plan_at h names b e v) p)
 prepared_for h names b e i v p (Ok u) is stands = subst (λ (plan : Plan). IsPrepared h b plan p) (read_plan h names b e i is.said v is.reads stands) is.prepared
 prepared_for h names b e i v p (Err m) is stands = tt
@@ -73,31 +73,31 @@ said_of names (Some k) None reads = absurd reads
 said_of names (Some k) (Some q) reads =
     record { said = Some q; stands = record { session = reads.session; stamp = reads.stamp; frame = reads_stand names k.frame q.frame reads.frame } }
 
-pub said_for : (h : Site) (b : Broker) (f : Option Packet → Plan) (i : Option WirePacket) (p : PlanBook) (r : Result (Unit {0}) Memory) → OnOk r (IsInputPrepared h b f i p) → OnOk r (IsSaid h.clusters i)
+pub said_for : (h : Site) (b : Broker) (f : Option Packet → Plan) (i : Option WirePacket) (p : PlanView) (r : Result (Unit {0}) Memory) → OnOk r (IsInputPrepared h b f i p) → OnOk r (IsSaid h.clusters i)
 said_for h b f i p (Ok u) is = said_of h.clusters i is.said is.reads
 said_for h b f i p (Err m) is = tt
 
 -- ---- what was prepared, without a packet and with the one that was read
 
-pub alone : (h : Site) (b : Broker) (f : Option Packet → Plan) (i : Option WirePacket) (p : PlanBook) (r : Result (Unit {0}) Memory) → i ≡ None
+pub alone : (h : Site) (b : Broker) (f : Option Packet → Plan) (i : Option WirePacket) (p : PlanView) (r : Result (Unit {0}) Memory) → i ≡ None
     → OnOk r (IsPrepared h b (f None) p) → OnOk r (IsInputPrepared h b f i p)
 alone h b f i p (Ok u) none is = record { said = None; reads = rw none tt; prepared = is }
 alone h b f i p (Err m) none is = tt
 
-pub read_prepared : (h now : Site) (b : Broker) (f : Option Packet → Plan) (w : WirePacket) (q : Packet) (p : PlanBook) (r : Result (Unit {0}) Memory) → now ≡ h → ReadsPacket now.clusters w q
+pub read_prepared : (h now : Site) (b : Broker) (f : Option Packet → Plan) (w : WirePacket) (q : Packet) (p : PlanView) (r : Result (Unit {0}) Memory) → now ≡ h → ReadsPacket now.clusters w q
     → OnOk r (IsPrepared h b (f (Some q)) p) → OnOk r (IsInputPrepared h b f (Some w) p)
 read_prepared h now b f w q p (Ok u) same reads is = record { said = Some q; reads = subst (λ (g : Site). ReadsPacket g.clusters w q) same reads; prepared = is }
 read_prepared h now b f w q p (Err m) same reads is = tt
 
 -- with a SEND of the usual form
-pub send_prepared : (h : Site) (b : Broker) (f : Option Packet → Plan) (w : WirePacket) (m : Came) (p : PlanBook) (r : Result (Unit {0}) Memory) → IsSendOf w m
+pub send_prepared : (h : Site) (b : Broker) (f : Option Packet → Plan) (w : WirePacket) (m : Came) (p : PlanView) (r : Result (Unit {0}) Memory) → IsSendOf w m
     → ((stamp : ℕ) → OnOk r (IsPrepared h b (f (Some (packet_by m.session stamp (send_viewed h.clusters m)))) p)) → OnOk r (IsInputPrepared h b f (Some w) p)
 send_prepared h b f w m p (Ok u) is prepared =
     record { said = Some (packet_by m.session w.stamp (send_viewed h.clusters m)); reads = record { session = is.session; stamp = refl; frame = is.said h.clusters }; prepared = prepared w.stamp }
 send_prepared h b f w m p (Err e) is prepared = tt
 
 -- with a receipt of the usual form
-pub receipt_prepared : (h : Site) (b : Broker) (f : Option Packet → Plan) (w : WirePacket) (k : Receipt) (p : PlanBook) (r : Result (Unit {0}) Memory) → IsReceiptOf w k
+pub receipt_prepared : (h : Site) (b : Broker) (f : Option Packet → Plan) (w : WirePacket) (k : Receipt) (p : PlanView) (r : Result (Unit {0}) Memory) → IsReceiptOf w k
     → OnOk r (IsPrepared h b (f (Some (packet_by w.session w.stamp (frame.SendReceipt k.id k.seq (Some k.position))))) p) → OnOk r (IsInputPrepared h b f (Some w) p)
 receipt_prepared h b f w k p (Ok u) is prepared =
     record { said = Some (packet_by w.session w.stamp (frame.SendReceipt k.id k.seq (Some k.position))); reads = record { session = refl; stamp = refl; frame = is.said h.clusters }; prepared = prepared }
@@ -120,7 +120,7 @@ no_look h names b (event.Go c) q no_serve no_take no_receipt = refl
 no_look h names b (event.Get c) q no_serve no_take no_receipt = refl
 no_look h names b (event.Reconnect c) q no_serve no_take no_receipt = refl
 
-pub read_alone : (h now : Site) (names : List (List ℕ)) (b : Broker) (e : Event) (w : WirePacket) (q : Packet) (p : PlanBook) (r : Result (Unit {0}) Memory)
+pub read_alone : (h now : Site) (names : List (List ℕ)) (b : Broker) (e : Event) (w : WirePacket) (q : Packet) (p : PlanView) (r : Result (Unit {0}) Memory)
     → ((x c : ℕ) → e ≢ event.Serve x c) → ((t x y : ℕ) (f : Fate) → e ≢ event.Take t x y f) → ((t x y : ℕ) (f : Fate) → e ≢ event.Receipt t x y f)
     → now ≡ h → ReadsPacket now.clusters w q → OnOk r (IsPrepared h b (plan_at h names b e None) p) → OnOk r (IsInputPrepared h b (plan_at h names b e) (Some w) p)
 read_alone h now names b e w q p (Ok u) no_serve no_take no_receipt same reads is =
@@ -132,7 +132,7 @@ read_alone h now names b e w q p (Ok u) no_serve no_take no_receipt same reads i
 read_alone h now names b e w q p (Err m) no_serve no_take no_receipt same reads is = tt
 
 -- what was prepared of a broker's own parts is so of what they show
-pub prepared_here : (h g : Site) (names ns : List (List ℕ)) (b d : Broker) (e : Event) (i : Option WirePacket) (v : Option Packet) (p : PlanBook) (r : Result (Unit {0}) Memory) → g ≡ h → ns ≡ names → d ≡ b
+pub prepared_here : (h g : Site) (names ns : List (List ℕ)) (b d : Broker) (e : Event) (i : Option WirePacket) (v : Option Packet) (p : PlanView) (r : Result (Unit {0}) Memory) → g ≡ h → ns ≡ names → d ≡ b
     → OnOk r (IsInputPrepared g d (plan_at g ns d e) i p) → StandsForInput h.clusters i v → OnOk r (IsPrepared h b (plan_at h names b e v) p)
 prepared_here h g names ns b d e i v p r site named broker is stands =
     prepared_for h names b e i v p r

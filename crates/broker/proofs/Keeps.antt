@@ -1,5 +1,5 @@
 -- All that a broker keeps can still be written after an event, or a stop within it, that adds only what can be.
-use Rattle.std.proofs.Common.{ℕ, Bool, true, false, List, [], ◌∷◌, ◌++◌, length, map}
+use Rattle.std.proofs.Common.{ℕ, Bool, List, [], ◌∷◌, ◌++◌, length, map}
 use Rattle.std.specs.Prelude.{if◌then◌else◌, not, nat_lt, is_some, filter, drop}
 use Rattle.std.specs.List.{AllByRecursion}
 use Rattle.std.specs.Str.{bytes_eq}
@@ -14,25 +14,18 @@ use Rattle.geo_base.specs.Cursor.{below, mark}
 use Rattle.geo_base.specs.Plan.{Plan, all_changed, all_written, done}
 use Rattle.geo_base.specs.Subscription.{Subscription, after_acks, cleared, detached, new_subscription}
 use Rattle.broker_plans.specs.Storable.{ChangesStorable, IsSnapshotOf, IsWritable, PlanStorable, WritesStorable}
+use Rattle.geo_base.proofs.Bools.{if_both}
+use Rattle.geo_base.proofs.Lists.{all_append}
 
 -- ---- lists
-
-all_append : {X : Type 0} (P : X → Type 0) (xs ys : List X) → AllByRecursion P xs → AllByRecursion P ys → AllByRecursion P (xs ++ ys)
-all_append P [] ys h k = k
-all_append P (x ∷ xs) ys h k = (h.0, all_append P xs ys h.1 k)
 
 all_map : {X : Type 0} (P : X → Type 0) (f : X → X) → ((x : X) → P x → P (f x)) → (xs : List X) → AllByRecursion P xs → AllByRecursion P (map f xs)
 all_map P f keeps [] h = tt
 all_map P f keeps (x ∷ xs) h = (keeps x h.0, all_map P f keeps xs h.1)
 
--- either of two that both hold
-on_if : {X : Type 0} (P : X → Type 0) (b : Bool) (x y : X) → P x → P y → P (if b then x else y)
-on_if P true x y p q = p
-on_if P false x y p q = q
-
 all_filter : {X : Type 0} (P : X → Type 0) (p : X → Bool) (xs : List X) → AllByRecursion P xs → AllByRecursion P (filter p xs)
 all_filter P p [] h = tt
-all_filter P p (x ∷ xs) h = on_if (AllByRecursion P) (p x) (x ∷ filter p xs) (filter p xs) (h.0, all_filter P p xs h.1) (all_filter P p xs h.1)
+all_filter P p (x ∷ xs) h = if_both (AllByRecursion P) (p x) (x ∷ filter p xs) (filter p xs) (h.0, all_filter P p xs h.1) (all_filter P p xs h.1)
 
 -- ---- caches
 
@@ -48,16 +41,16 @@ first_dropped h (c ∷ cs) all = all.1
 
 one_more : (h : Site) (cs : List CachedSnapshot) (c : CachedSnapshot) → AreSnapshots h cs → IsSnapshotOf h c → AreSnapshots h (cached cs c)
 one_more h cs c all new =
-    on_if (AreSnapshots h) (nat_lt (length cs) most_cached) (cs ++ c ∷ []) (drop 1 cs ++ c ∷ [])
+    if_both (AreSnapshots h) (nat_lt (length cs) most_cached) (cs ++ c ∷ []) (drop 1 cs ++ c ∷ [])
     (all_append (IsSnapshotOf h) cs (c ∷ []) all (new, tt))
     (all_append (IsSnapshotOf h) (drop 1 cs) (c ∷ []) (first_dropped h cs all) (new, tt))
 
 passed_gone : (h : Site) (mark : ℕ) (cs : List CachedSnapshot) → AreSnapshots h cs → AreSnapshots h (not_passed mark cs)
 passed_gone h mark [] all = tt
-passed_gone h mark (c ∷ cs) all = on_if (AreSnapshots h) (any_passed mark (c ∷ cs)) (not_passed mark cs) (c ∷ cs) (passed_gone h mark cs all.1) all
+passed_gone h mark (c ∷ cs) all = if_both (AreSnapshots h) (any_passed mark (c ∷ cs)) (not_passed mark cs) (c ∷ cs) (passed_gone h mark cs all.1) all
 
 after_acks_has : (h : Site) (s : Subscription) → HasSnapshots h s → HasSnapshots h (after_acks s)
-after_acks_has h s all = on_if (AreSnapshots h) s.replicated (not_passed (mark s.cursor) s.cache) s.cache (passed_gone h (mark s.cursor) s.cache all) all
+after_acks_has h s all = if_both (AreSnapshots h) s.replicated (not_passed (mark s.cursor) s.cache) s.cache (passed_gone h (mark s.cursor) s.cache all) all
 
 -- ---- a broker
 
@@ -65,7 +58,7 @@ after_acks_has h s all = on_if (AreSnapshots h) s.replicated (not_passed (mark s
 with_sub : (h : Site) (b : Broker) (n : List ℕ) (f : Subscription → Subscription) → ((s : Subscription) → HasSnapshots h s → HasSnapshots h (f s)) → IsWritable h b → IsWritable h (at_sub b n f)
 with_sub h b n f keeps is = record {
   entries = is.entries;
-  caches = all_map (HasSnapshots h) (λ (s : Subscription). if bytes_eq s.name n then f s else s) (λ s has. on_if (HasSnapshots h) (bytes_eq s.name n) (f s) s (keeps s has) has) b.subs is.caches;
+  caches = all_map (HasSnapshots h) (λ (s : Subscription). if bytes_eq s.name n then f s else s) (λ s has. if_both (HasSnapshots h) (bytes_eq s.name n) (f s) s (keeps s has) has) b.subs is.caches;
   builder = is.builder;
 }
 
@@ -76,12 +69,12 @@ written_keeps h per b (write.Append e) ok is = record { entries = all_append _ b
 written_keeps h per b (write.Create n kind replicated latest) ok is =
     let s : Subscription = new_subscription n kind replicated (if latest then below (length b.entries) else []) in
     let c : Broker = record b { subs = b.subs ++ s ∷ [] } in
-    on_if (IsWritable h) (is_some (sub_named b.subs n)) b c is (record { entries = is.entries; caches = all_append (HasSnapshots h) b.subs (s ∷ []) is.caches (tt, tt); builder = is.builder })
+    if_both (IsWritable h) (is_some (sub_named b.subs n)) b c is (record { entries = is.entries; caches = all_append (HasSnapshots h) b.subs (s ∷ []) is.caches (tt, tt); builder = is.builder })
 written_keeps h per b (write.Alter n kind replicated) ok is = with_sub h b n (λ s. record s { kind = kind; replicated = replicated }) (λ s has. has) is
 written_keeps h per b (write.Delete n) ok is = record { entries = is.entries; caches = all_filter (HasSnapshots h) (λ (s : Subscription). not (bytes_eq s.name n)) b.subs is.caches; builder = is.builder }
 written_keeps h per b (write.Acks n is_) ok is = with_sub h b n _ (λ s has. has) is
 written_keeps h per b (write.Seek n i) ok is = with_sub h b n _ (λ s has. has) is
-written_keeps h per b (write.SenderAck y i) ok is = record { entries = is.entries; caches = is.caches; builder = is.builder }
+written_keeps h per b (write.ReplicatorAck y i) ok is = record { entries = is.entries; caches = is.caches; builder = is.builder }
 written_keeps h per b (write.SessionNumber y session) ok is = record { entries = is.entries; caches = is.caches; builder = is.builder }
 written_keeps h per b write.Ledger ok is = record { entries = is.entries; caches = is.caches; builder = is.builder }
 
@@ -93,7 +86,7 @@ first_write h (write.Alter n kind replicated) ws ok = (tt, ok)
 first_write h (write.Delete n) ws ok = (tt, ok)
 first_write h (write.Acks n is) ws ok = (tt, ok)
 first_write h (write.Seek n i) ws ok = (tt, ok)
-first_write h (write.SenderAck y i) ws ok = (tt, ok)
+first_write h (write.ReplicatorAck y i) ws ok = (tt, ok)
 first_write h (write.SessionNumber y session) ws ok = (tt, ok)
 first_write h write.Ledger ws ok = (tt, ok)
 
@@ -111,7 +104,7 @@ changed_keeps h b (change.Client c session) ok is = record { entries = is.entrie
 changed_keeps h b (change.Attach n k) ok is = with_sub h b n _ (λ s has. has) is
 changed_keeps h b (change.Detach c) ok is = record { entries = is.entries; caches = all_map (HasSnapshots h) (detached c) (λ s has. has) b.subs is.caches; builder = is.builder }
 changed_keeps h b (change.Permit n c permits) ok is = with_sub h b n _ (λ s has. has) is
-changed_keeps h b (change.Passed n i) ok is = with_sub h b n _ (λ s has. has) is
+changed_keeps h b (change.Skipped n i) ok is = with_sub h b n _ (λ s has. has) is
 changed_keeps h b (change.Given n i at) ok is = with_sub h b n _ (λ s has. has) is
 changed_keeps h b (change.Cache n c) ok is = with_sub h b n (λ s. record s { cache = cached s.cache c }) (λ s has. one_more h s.cache c has ok.0) is
 changed_keeps h b (change.Acked n) ok is = with_sub h b n after_acks (after_acks_has h) is
@@ -130,7 +123,7 @@ first_change h (change.Client c session) cs ok = (tt, ok)
 first_change h (change.Attach n k) cs ok = (tt, ok)
 first_change h (change.Detach c) cs ok = (tt, ok)
 first_change h (change.Permit n c permits) cs ok = (tt, ok)
-first_change h (change.Passed n i) cs ok = (tt, ok)
+first_change h (change.Skipped n i) cs ok = (tt, ok)
 first_change h (change.Given n i at) cs ok = (tt, ok)
 first_change h (change.Cache n c) cs ok = ((ok.0, tt), ok.1)
 first_change h (change.Acked n) cs ok = (tt, ok)

@@ -7,7 +7,7 @@ use Rattle.geo_base.specs.declared.entry.Content.TheVariants as content
 use Rattle.geo_base.specs.declared.entry.Entry.{Entry}
 use Rattle.geo_base.specs.declared.frame.Frame.{Frame}
 use Rattle.geo_base.specs.declared.marker.Marker.{Marker as MachineMarker}
-use Rattle.geo_base.specs.declared.marker.Place.{Place}
+use Rattle.geo_base.specs.declared.marker.ClusterRef.{ClusterRef}
 use Rattle.marker_codec.specs.declared.marker.Marker.{Marker}
 use Rattle.marker_codec.specs.declared.marker.Marker.TheVariants as marker
 use Rattle.marker_codec.specs.declared.table.TheConstants.{SNAPSHOT_ID, SUBSCRIPTION_NAME}
@@ -97,7 +97,7 @@ content_has names number payload c kept (foreign k m some says other is same) =
 
 -- ---- frames
 
-entry_read : (names : List (List ℕ)) (b : Body) (source : Option Place) (e : Entry) → IsEntryOf names b source e → IsRest e.meta.rest → IsReadEntry e
+entry_read : (names : List (List ℕ)) (b : Body) (source : Option ClusterRef) (e : Entry) → IsEntryOf names b source e → IsRest e.meta.rest → IsReadEntry e
 entry_read names b source e says rest = record { rest = rest; marker = content_has names b.meta.marker b.payload e.content e.payload says.content }
 
 simple_read : (c : Command) → IsReadFrame (simple_frame c)
@@ -120,7 +120,7 @@ simple_read (command.ProducerSuccess request name) = tt
 simple_read command.Ping = tt
 simple_read command.Pong = tt
 
-carried_read : (names : List (List ℕ)) (b : Body) (c : Command) (source : Option Place) (e : Entry) → IsEntryOf names b source e → IsRest (unread_bytes (carrying c source e)) → IsReadFrame (carrying c source e)
+carried_read : (names : List (List ℕ)) (b : Body) (c : Command) (source : Option ClusterRef) (e : Entry) → IsEntryOf names b source e → IsRest (unread_bytes (carrying c source e)) → IsReadFrame (carrying c source e)
 carried_read names b (command.Connect version protocol) source e says rest = tt
 carried_read names b (command.Connected version protocol) source e says rest = tt
 carried_read names b (command.Subscribe topic sub kind id request consumer earliest replicated) source e says rest = tt

@@ -3,7 +3,7 @@ use Rattle.std.specs.Prelude.{◌≡◌, ℕ, ◌+◌, ◌<◌, ◌^◌, List, [
 use Rattle.geo_base.specs.declared.event.Event.{Event}
 use Rattle.geo_base.specs.declared.event.Event.TheVariants as event
 use Rattle.geo_base.specs.declared.packet.Packet.{Packet}
-use Rattle.geo_base.specs.Broker.{Broker, Site, sender_at}
+use Rattle.geo_base.specs.Broker.{Broker, Site, replicator_at}
 use Rattle.geo_base.specs.Forwarding.{receipt, reset, take_packet}
 use Rattle.geo_base.specs.Markers.{snap}
 use Rattle.geo_base.specs.Offering.{offer}
@@ -15,7 +15,7 @@ use Rattle.geo_base.specs.Setup.{Setup, declared_at, sub_names}
 use Rattle.geo_base.specs.Topic.{next_marker}
 use Rattle.geo_base.specs.World.{site}
 use Rattle.broker_tasks.specs.Seeking.{SeekFits}
-use Rattle.broker.specs.Node.{BrokerBook}
+use Rattle.broker.specs.Node.{BrokerView}
 
 -- the name that an event's number of a subscription stands for; past the end it is empty, which no subscription's name is
 abbrev pub name_at : List (List ℕ) → ℕ → List ℕ
@@ -38,28 +38,28 @@ plan_at h names b (event.Go c) p = idle_plan
 plan_at h names b (event.Get c) p = idle_plan
 plan_at h names b (event.Reconnect c) p = idle_plan
 
-abbrev pub plan_at_node : BrokerBook → Event → Option Packet → Plan
+abbrev pub plan_at_node : BrokerView → Event → Option Packet → Plan
 plan_at_node v e p = plan_at v.site v.names v.broker e p
 
 -- ---- whose event it is
 
 -- at this broker: of its topic at its cluster
-pub record IsHere (v : BrokerBook) (t x : ℕ) : Type 0 where
+pub record IsHere (v : BrokerView) (t x : ℕ) : Type 0 where
   pub topic : t ≡ v.topic
   pub cluster : x ≡ v.site.own
 
 -- at this broker, with another cluster's number
-pub record IsLink (v : BrokerBook) (t x y : ℕ) : Type 0 where
+pub record IsLink (v : BrokerView) (t x y : ℕ) : Type 0 where
   pub here : IsHere v t x
   pub other : y < length v.site.clusters
 
 -- of a client and this broker
-pub record IsClients (v : BrokerBook) (x c : ℕ) : Type 0 where
+pub record IsClients (v : BrokerView) (x c : ℕ) : Type 0 where
   pub cluster : x ≡ v.site.own
   pub client : c < length v.broker.sessions
 
 -- An event of this broker, whose numbers of clusters and clients are in range.
-abbrev pub IsOfNode : BrokerBook → Event → Type 0
+abbrev pub IsOfNode : BrokerView → Event → Type 0
 IsOfNode v (event.Serve x c) = IsClients v x c
 IsOfNode v (event.Drop x c) = IsClients v x c
 IsOfNode v (event.Reset t x y) = IsLink v t x y
@@ -92,12 +92,12 @@ IsInRange h b (event.Reconnect c) = ⊤
 
 -- ---- numbers that rise
 
--- the sequence id of the cluster's next own marker has 64 bits, and so has the one behind it
+-- the sequence id of the cluster's next own marker has 64 bits, and so has the one after it
 abbrev pub HasNextMarker : Site → Broker → Type 0
 HasNextMarker h b = next_marker h.own b.entries + 1 < 2 ^ 64
 
 abbrev pub SessionRises : Broker → Event → Type 0
-SessionRises b (event.Reset t x y) = (sender_at b y).session < 2 ^ 63
+SessionRises b (event.Reset t x y) = (replicator_at b y).session < 2 ^ 63
 SessionRises b e = ⊤
 
 -- the count of seeks of the subscription of a name, if there is one
@@ -116,20 +116,20 @@ MarkerRises h b e = ⊤
 
 -- The numbers that an event raises still have room to rise: that of a session which begins, the count of a subscription's seeks,
 -- and the number of the cluster's next own marker.
-pub record NumbersRise (v : BrokerBook) (e : Event) : Type 0 where
+pub record NumbersRise (v : BrokerView) (e : Event) : Type 0 where
   pub session : SessionRises v.broker e
   pub seeks : SeekRises v.names v.broker e
   pub marker : MarkerRises v.site v.broker e
 
 -- it is the broker's, and its numbers have room to rise
-pub record CanHappen (v : BrokerBook) (e : Event) : Type 0 where
+pub record CanHappen (v : BrokerView) (e : Event) : Type 0 where
   pub node : IsOfNode v e
   pub numbers : NumbersRise v e
 
 -- ---- the broker of a setup
 
 -- the broker of topic t at cluster x of a setup
-pub record IsNodeOf (s : Setup) (t x : ℕ) (v : BrokerBook) : Type 0 where
+pub record IsNodeOf (s : Setup) (t x : ℕ) (v : BrokerView) : Type 0 where
   pub topic : v.topic ≡ t
   pub site : v.site ≡ site s t x
   pub names : v.names ≡ sub_names s t

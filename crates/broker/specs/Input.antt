@@ -4,7 +4,7 @@ use Rattle.geo_base.specs.declared.frame.Frame.TheVariants as frame
 use Rattle.geo_base.specs.declared.packet.Packet.{Packet}
 use Rattle.geo_base.specs.Broker.{Broker, Site}
 use Rattle.geo_base.specs.Plan.{Plan}
-use Rattle.broker_state.specs.Plan.{PlanBook}
+use Rattle.broker_state.specs.Plan.{PlanView}
 use Rattle.broker_plans.specs.declared.usual.Came.{Came}
 use Rattle.broker_plans.specs.Prepared.{IsPrepared}
 use Rattle.broker_plans.specs.Usual.{send_viewed}
@@ -36,7 +36,7 @@ ReadsInput names (Some b) (Some p) = ReadsPacket names b p
 ReadsInput names b p = ⊥
 
 -- an event that takes the next packet of a link, or finds none, is prepared: it is the machine's plan, with what the bytes say
-pub record IsInputPrepared (h : Site) (b : Broker) (plan : Option Packet → Plan) (i : Option WirePacket) (p : PlanBook) : Type 0 where
+pub record IsInputPrepared (h : Site) (b : Broker) (plan : Option Packet → Plan) (i : Option WirePacket) (p : PlanView) : Type 0 where
   pub said : Option Packet
   pub reads : ReadsInput h.clusters i said
   pub prepared : IsPrepared h b (plan said) p

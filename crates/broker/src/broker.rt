@@ -1,11 +1,11 @@
 //! The broker of a topic at a cluster, and what may be read of it.
 ghost use Rattle.std.specs.Prelude.{◌≡◌, ◌<◌, ◌≤◌, length, slice_get, IfOk, MatchOption, Some, is_some};
-ghost use Rattle.geo_base.specs.Broker.{backlog, new_broker, sender_at};
+ghost use Rattle.geo_base.specs.Broker.{backlog, new_broker, replicator_at};
 ghost use Rattle.geo_base.specs.Cursor.{mark};
-ghost use Rattle.broker_subs.specs.SubBook.{subs_of};
+ghost use Rattle.broker_subs.specs.SubView.{subs_of};
 ghost use Rattle.broker_subs.specs.Table.{sub_at};
 
-use broker_state::{BrokerState, SenderRow, Site};
+use broker_state::{BrokerState, ReplicatorRow, Site};
 use broker_subs::Sub;
 use geo_base::{Memory, SubName};
 use std::alloc::Global;
@@ -17,17 +17,17 @@ use topic_store::TopicLedger;
 pub struct Broker {
     pub(crate) topic: u32,
     pub(crate) names: Vec<SubName>,
-    pub(crate) book: BrokerState,
+    pub(crate) state: BrokerState,
 }
 
 impl Model for Broker {
-    ghost use Rattle.broker.specs.Node.{BrokerBook, NodeHolds};
+    ghost use Rattle.broker.specs.Node.{BrokerView, NodeHolds};
 
-    ghost Value = { BrokerBook };
+    ghost Value = { BrokerView };
 
-    ghost view = { λ n. record { topic = n.topic; site = n.book.site; names = n.names.items; broker = n.book.broker; room = n.book.room } };
+    ghost view = { λ n. record { topic = n.topic; site = n.state.site; names = n.names.items; broker = n.state.broker; room = n.state.room } };
 
-    ghost invariant = { λ n. NodeHolds n.book };
+    ghost invariant = { λ n. NodeHolds n.state };
 }
 
 impl Broker {
@@ -47,8 +47,12 @@ impl Broker {
         ensures names { IfOk result (λ v. v.names ≡ names.items) }
         ensures broker { IfOk result (λ v. v.broker ≡ new_broker (length site.clusters) clients) }
     {
-        let book = BrokerState::new(alloc, site, clients)?;
-        Ok(Broker { topic, names, book })
+        let state = BrokerState::new(alloc, site, clients)?;
+        Ok(Broker {
+            topic,
+            names,
+            state,
+        })
     }
 
     /// The topic's number.
@@ -62,14 +66,14 @@ impl Broker {
     pub fn cluster(&self) -> u32
         ensures { result ≡ self.now.site.own }
     {
-        self.book.site().own()
+        self.state.site().own()
     }
 
     /// What the broker knows of the setup.
     pub fn site(&self) -> &Site
         ensures { result.now ≡ self.now.site }
     {
-        self.book.site()
+        self.state.site()
     }
 
     /// The topic's entries and ledgers.
@@ -78,39 +82,39 @@ impl Broker {
         ensures ledgers { result.now.ledgers ≡ self.now.broker.ledgers }
         ensures per_ledger { result.now.per_ledger ≡ self.now.site.per_ledger }
     {
-        self.book.store()
+        self.state.store()
     }
 
-    /// The sender to another cluster.
-    pub fn sender(&self, remote: u32) -> &SenderRow
+    /// The replicator to another cluster.
+    pub fn replicator(&self, remote: u32) -> &ReplicatorRow
         requires { remote < length self.now.site.clusters }
-        ensures { result.now.sender ≡ sender_at self.now.broker remote }
+        ensures { result.now.replicator ≡ replicator_at self.now.broker remote }
     {
-        let _site = self.book.site();
-        self.book.sender(remote)
+        let _site = self.state.site();
+        self.state.replicator(remote)
     }
 
     /// The least index that another cluster has not acknowledged.
-    pub fn sender_mark(&self, remote: u32) -> u64
+    pub fn replicator_mark(&self, remote: u32) -> u64
         requires { remote < length self.now.site.clusters }
-        ensures { result ≡ mark (sender_at self.now.broker remote).cursor }
+        ensures { result ≡ mark (replicator_at self.now.broker remote).cursor }
     {
-        self.sender(remote).cursor().mark_delete()
+        self.replicator(remote).cursor().mark_delete()
     }
 
     /// How many subscriptions there are.
     pub fn subs(&self) -> usize
         ensures { result ≡ length self.now.broker.subs }
     {
-        self.book.subs().len()
+        self.state.subs().len()
     }
 
     /// The subscription at a place in order of creation; None exactly past the last.
     pub fn sub(&self, i: usize) -> Option<&Sub>
         ensures { MatchOption result (length self.now.broker.subs ≤ i) (λ s. slice_get self.now.broker.subs i ≡ Some s.now.sub) }
     {
-        if i < self.book.subs().len() {
-            Some(self.book.subs().at(i))
+        if i < self.state.subs().len() {
+            Some(self.state.subs().at(i))
         } else {
             None
         }
@@ -121,14 +125,14 @@ impl Broker {
         requires { i < length self.now.broker.subs }
         ensures { result ≡ backlog self.now.broker (sub_at self.now.broker.subs i) }
     {
-        self.book.backlog(self.book.subs().at(i))
+        self.state.backlog(self.state.subs().at(i))
     }
 
     /// Whether a snapshot is in the making, which a broker keeps in memory alone: a restart forgets it.
     pub fn is_making(&self) -> bool
         ensures { result ≡ is_some self.now.broker.builder }
     {
-        match self.book.builder() {
+        match self.state.builder() {
             None => false,
             Some(_) => true,
         }

@@ -30,7 +30,7 @@ impl Broker {
         ensures node { SameNode self.old self.new }
         ensures empty { IsEmptyPlan plan.new }
     {
-        self.book.commit(plan);
+        self.state.commit(plan);
     }
 
     /// Does an event, with the next packet of the link that it takes from. All memory is taken first; an `Err` is want of it, and
@@ -79,7 +79,7 @@ impl Broker {
         Ok(Acted { idle, sent })
     }
 
-    /// Stops the broker behind the first `writes` durable writes of an event: what they wrote stays, a ledger opens, what is in
+    /// Stops the broker after the first `writes` durable writes of an event: what they wrote stays, a ledger opens, what is in
     /// memory is lost, and nothing is sent. An `Err` is want of memory, and then nothing has changed.
     pub fn halt(
         &mut self,
@@ -111,7 +111,7 @@ impl Broker {
         ensures node { SameNode self.old self.new }
     {
         let room = plan.write_count().min(writes as usize) + 1;
-        self.book.reserve_entries(room)?;
+        self.state.reserve_entries(room)?;
         plan.halt_behind(writes as usize)
     }
 }

@@ -5,7 +5,7 @@ ghost use Rattle.broker.specs.Events.{CanHappen, HasNextMarker, IsClients, IsHer
 
 use crate::broker::Broker;
 use crate::preparing::name_at;
-use broker_plans::{place_named, sub_at};
+use broker_plans::{sub_at, sub_index_named};
 use geo_base::Event;
 
 /// How far a session's number may rise.
@@ -63,19 +63,19 @@ impl Broker {
     fn is_of_client(&self, cluster: u32, client: u32) -> bool
         ensures { IsTrue result ↔ IsClients self.now cluster client }
     {
-        cluster == self.book.site().own() && (client as usize) < self.book.sessions().len()
+        cluster == self.state.site().own() && (client as usize) < self.state.sessions().len()
     }
 
     fn is_here(&self, topic: u32, cluster: u32) -> bool
         ensures { IsTrue result ↔ IsHere self.now topic cluster }
     {
-        topic == self.topic && cluster == self.book.site().own()
+        topic == self.topic && cluster == self.state.site().own()
     }
 
     fn is_link(&self, topic: u32, cluster: u32, other: u32) -> bool
         ensures { IsTrue result ↔ IsLink self.now topic cluster other }
     {
-        self.is_here(topic, cluster) && (other as usize) < self.book.site().clusters().len()
+        self.is_here(topic, cluster) && (other as usize) < self.state.site().clusters().len()
     }
 
     fn marker_rises(&self, event: &Event) -> bool
@@ -94,7 +94,7 @@ impl Broker {
     fn has_next_marker(&self) -> bool
         ensures { IsTrue result ↔ HasNextMarker self.now.site self.now.broker }
     {
-        self.book.next_marker() < u64::MAX
+        self.state.next_marker() < u64::MAX
     }
 
     fn session_rises(&self, event: &Event) -> bool
@@ -102,7 +102,8 @@ impl Broker {
         ensures { IsTrue result ↔ SessionRises self.now.broker event.now }
     {
         match *event {
-            Event::Reset { target, .. } => self.sender(target).sender().session() < SESSIONS,
+            Event::Reset { target, .. } => self.replicator(target).replicator().session()
+                < SESSIONS,
             _ => true,
         }
     }
@@ -119,9 +120,9 @@ impl Broker {
     fn seek_fits(&self, name: &[u8]) -> bool
         ensures { IsTrue result ↔ SeekFits self.now.broker name.now }
     {
-        match place_named(&self.book, name) {
+        match sub_index_named(&self.state, name) {
             None => true,
-            Some(place) => sub_at(&self.book, place).durable().seeks < u64::MAX,
+            Some(sub_index) => sub_at(&self.state, sub_index).durable().seeks < u64::MAX,
         }
     }
 }

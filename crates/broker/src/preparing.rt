@@ -44,7 +44,7 @@ impl Broker {
         ensures err { OnErr result (IsEmptyPlan plan.new) }
     {
         let names = self.names.as_slice();
-        prepare_or_empty(alloc, &mut self.book, names, event, input, plan)
+        prepare_or_empty(alloc, &mut self.state, names, event, input, plan)
     }
 }
 
@@ -52,25 +52,25 @@ impl Broker {
 /// empty again.
 fn prepare_or_empty(
     alloc: Global,
-    book: &mut BrokerState,
+    state: &mut BrokerState,
     names: &[SubName],
     event: &Event,
     input: Option<&WirePacket>,
     plan: &mut Plan,
 ) -> Result<(), Memory>
-    requires several { 2 ≤ length book.old.site.clusters }
-    requires range { IsInRange book.old.site book.old.broker event.now }
-    requires session { SessionRises book.old.broker event.now }
-    requires seeks { SeekRises names.now book.old.broker event.now }
-    requires number { MarkerRises book.old.site book.old.broker event.now }
-    requires stored { IsWritable book.old.site book.old.broker }
+    requires several { 2 ≤ length state.old.site.clusters }
+    requires range { IsInRange state.old.site state.old.broker event.now }
+    requires session { SessionRises state.old.broker event.now }
+    requires seeks { SeekRises names.now state.old.broker event.now }
+    requires number { MarkerRises state.old.site state.old.broker event.now }
+    requires stored { IsWritable state.old.site state.old.broker }
     requires empty { IsEmptyPlan plan.old }
-    ensures prepared { OnOk result (IsInputPrepared book.old.site book.old.broker (plan_at book.old.site names.now book.old.broker event.now) (option_copied input.entry) plan.new) }
-    ensures room { OnOk result (HasRoom book.new.room plan.new) }
-    ensures kept { SameState book.old book.new }
+    ensures prepared { OnOk result (IsInputPrepared state.old.site state.old.broker (plan_at state.old.site names.now state.old.broker event.now) (option_copied input.entry) plan.new) }
+    ensures room { OnOk result (HasRoom state.new.room plan.new) }
+    ensures kept { SameState state.old state.new }
     ensures err { OnErr result (IsEmptyPlan plan.new) }
 {
-    match prepare_with(alloc, book, names, event, input, plan) {
+    match prepare_with(alloc, state, names, event, input, plan) {
         Ok(()) => Ok(()),
         Err(memory) => {
             plan.clear();
@@ -83,26 +83,26 @@ fn prepare_or_empty(
 #[tactic(auto, using(crate::proofs::Inputs::alone))]
 fn prepare_with(
     alloc: Global,
-    book: &mut BrokerState,
+    state: &mut BrokerState,
     names: &[SubName],
     event: &Event,
     input: Option<&WirePacket>,
     plan: &mut Plan,
 ) -> Result<(), Memory>
-    requires several { 2 ≤ length book.old.site.clusters }
-    requires range { IsInRange book.old.site book.old.broker event.now }
-    requires session { SessionRises book.old.broker event.now }
-    requires seeks { SeekRises names.now book.old.broker event.now }
-    requires number { MarkerRises book.old.site book.old.broker event.now }
-    requires stored { IsWritable book.old.site book.old.broker }
+    requires several { 2 ≤ length state.old.site.clusters }
+    requires range { IsInRange state.old.site state.old.broker event.now }
+    requires session { SessionRises state.old.broker event.now }
+    requires seeks { SeekRises names.now state.old.broker event.now }
+    requires number { MarkerRises state.old.site state.old.broker event.now }
+    requires stored { IsWritable state.old.site state.old.broker }
     requires empty { IsEmptyPlan plan.old }
-    ensures prepared { OnOk result (IsInputPrepared book.old.site book.old.broker (plan_at book.old.site names.now book.old.broker event.now) (option_copied input.entry) plan.new) }
-    ensures room { OnOk result (HasRoom book.new.room plan.new) }
-    ensures kept { SameState book.old book.new }
+    ensures prepared { OnOk result (IsInputPrepared state.old.site state.old.broker (plan_at state.old.site names.now state.old.broker event.now) (option_copied input.entry) plan.new) }
+    ensures room { OnOk result (HasRoom state.new.room plan.new) }
+    ensures kept { SameState state.old state.new }
 {
     match input {
-        None => prepare(alloc, book, names, event, plan),
-        Some(packet) => prepare_taking(alloc, book, names, event, packet, plan),
+        None => prepare(alloc, state, names, event, plan),
+        Some(packet) => prepare_taking(alloc, state, names, event, packet, plan),
     }
 }
 
@@ -110,33 +110,33 @@ fn prepare_with(
 #[tactic(auto, using(crate::proofs::Prepares::can_write))]
 fn prepare_taking(
     alloc: Global,
-    book: &mut BrokerState,
+    state: &mut BrokerState,
     names: &[SubName],
     event: &Event,
     packet: &WirePacket,
     plan: &mut Plan,
 ) -> Result<(), Memory>
-    requires several { 2 ≤ length book.old.site.clusters }
-    requires range { IsInRange book.old.site book.old.broker event.now }
-    requires session { SessionRises book.old.broker event.now }
-    requires seeks { SeekRises names.now book.old.broker event.now }
-    requires number { MarkerRises book.old.site book.old.broker event.now }
-    requires stored { IsWritable book.old.site book.old.broker }
+    requires several { 2 ≤ length state.old.site.clusters }
+    requires range { IsInRange state.old.site state.old.broker event.now }
+    requires session { SessionRises state.old.broker event.now }
+    requires seeks { SeekRises names.now state.old.broker event.now }
+    requires number { MarkerRises state.old.site state.old.broker event.now }
+    requires stored { IsWritable state.old.site state.old.broker }
     requires empty { IsEmptyPlan plan.old }
-    ensures prepared { OnOk result (IsInputPrepared book.old.site book.old.broker (plan_at book.old.site names.now book.old.broker event.now) (Some packet.now) plan.new) }
-    ensures room { OnOk result (HasRoom book.new.room plan.new) }
-    ensures kept { SameState book.old book.new }
+    ensures prepared { OnOk result (IsInputPrepared state.old.site state.old.broker (plan_at state.old.site names.now state.old.broker event.now) (Some packet.now) plan.new) }
+    ensures room { OnOk result (HasRoom state.new.room plan.new) }
+    ensures kept { SameState state.old state.new }
 {
-    let _site = book.site();
+    let _site = state.site();
     match *event {
-        Event::Serve { client, .. } => serve(alloc, book, client, packet, plan),
-        Event::Take { source, fate, .. } => take(alloc, book, source, fate, packet, plan),
-        Event::Receipt { target, fate, .. } => receive(alloc, book, target, fate, packet, plan),
+        Event::Serve { client, .. } => serve(alloc, state, client, packet, plan),
+        Event::Take { source, fate, .. } => take(alloc, state, source, fate, packet, plan),
+        Event::Receipt { target, fate, .. } => receive(alloc, state, target, fate, packet, plan),
         _ => {
-            let said = read_packet(alloc, book.site(), packet)?;
+            let said = read_packet(alloc, state.site(), packet)?;
             // by a call, so that the end of a packet is proved by itself
             drop(said);
-            prepare(alloc, book, names, event, plan)
+            prepare(alloc, state, names, event, plan)
         }
     }
 }
@@ -145,31 +145,31 @@ fn prepare_taking(
 #[tactic(auto, unfolding(geo_base::specs::Serving::serve, geo_base::specs::Forwarding::take_packet, geo_base::specs::Forwarding::receipt), using(crate::proofs::Ready::idle_prepared, crate::proofs::Ready::idle_room, crate::proofs::Prepares::can_write))]
 fn prepare(
     alloc: Global,
-    book: &mut BrokerState,
+    state: &mut BrokerState,
     names: &[SubName],
     event: &Event,
     plan: &mut Plan,
 ) -> Result<(), Memory>
-    requires several { 2 ≤ length book.old.site.clusters }
-    requires range { IsInRange book.old.site book.old.broker event.now }
-    requires session { SessionRises book.old.broker event.now }
-    requires seeks { SeekRises names.now book.old.broker event.now }
-    requires number { MarkerRises book.old.site book.old.broker event.now }
-    requires stored { IsWritable book.old.site book.old.broker }
+    requires several { 2 ≤ length state.old.site.clusters }
+    requires range { IsInRange state.old.site state.old.broker event.now }
+    requires session { SessionRises state.old.broker event.now }
+    requires seeks { SeekRises names.now state.old.broker event.now }
+    requires number { MarkerRises state.old.site state.old.broker event.now }
+    requires stored { IsWritable state.old.site state.old.broker }
     requires empty { IsEmptyPlan plan.old }
-    ensures prepared { OnOk result (IsPrepared book.old.site book.old.broker (plan_at book.old.site names.now book.old.broker event.now None) plan.new) }
-    ensures room { OnOk result (HasRoom book.new.room plan.new) }
-    ensures kept { SameState book.old book.new }
+    ensures prepared { OnOk result (IsPrepared state.old.site state.old.broker (plan_at state.old.site names.now state.old.broker event.now None) plan.new) }
+    ensures room { OnOk result (HasRoom state.new.room plan.new) }
+    ensures kept { SameState state.old state.new }
 {
-    let _site = book.site();
+    let _site = state.site();
     match *event {
-        Event::Drop { client, .. } => prepare_drop(book, client, plan),
-        Event::Reset { target, .. } => prepare_reset(alloc, book, target, plan),
-        Event::Read { target, .. } => prepare_read(alloc, book, target, plan),
-        Event::Snap { .. } => prepare_snap(alloc, book, plan),
-        Event::Offer { sub, .. } => prepare_offer(alloc, book, name_at(names, sub), plan),
-        Event::Seek { sub, to, .. } => prepare_seek(alloc, book, name_at(names, sub), to, plan),
-        Event::Restart { .. } => prepare_restart(book, plan),
+        Event::Drop { client, .. } => prepare_drop(state, client, plan),
+        Event::Reset { target, .. } => prepare_reset(alloc, state, target, plan),
+        Event::Read { target, .. } => prepare_read(alloc, state, target, plan),
+        Event::Snap { .. } => prepare_snap(alloc, state, plan),
+        Event::Offer { sub, .. } => prepare_offer(alloc, state, name_at(names, sub), plan),
+        Event::Seek { sub, to, .. } => prepare_seek(alloc, state, name_at(names, sub), to, plan),
+        Event::Restart { .. } => prepare_restart(state, plan),
         Event::Serve { .. }
         | Event::Take { .. }
         | Event::Receipt { .. }

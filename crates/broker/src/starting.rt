@@ -16,8 +16,8 @@ impl Broker {
         ensures broker { IfOk result (λ d. broker_of d ≡ durable_part self.now.broker) }
         ensures site { IfOk result (IsDurableOf self.now.site) }
     {
-        let _site = self.book.site();
-        self.book.durable(alloc)
+        let _site = self.state.site();
+        self.state.durable(alloc)
     }
 
     /// The broker of a topic at a site as it is after a restart, with no session of so many clients. An `Err` is want of memory.
@@ -34,10 +34,14 @@ impl Broker {
         ensures topic { IfOk result (λ v. v.topic ≡ topic) }
         ensures site { IfOk result (λ v. v.site ≡ site) }
         ensures names { IfOk result (λ v. v.names ≡ names.items) }
-        ensures broker { IfOk result (λ v. v.broker ≡ record (broker_of durable) { receivers = replicate (length durable.senders) None; sessions = replicate clients None }) }
+        ensures broker { IfOk result (λ v. v.broker ≡ record (broker_of durable) { receivers = replicate (length durable.replicators) None; sessions = replicate clients None }) }
     {
         let _parts = durable.subs.as_slice();
-        let book = BrokerState::from_durable(alloc, site, durable, clients)?;
-        Ok(Broker { topic, names, book })
+        let state = BrokerState::from_durable(alloc, site, durable, clients)?;
+        Ok(Broker {
+            topic,
+            names,
+            state,
+        })
     }
 }

@@ -23,144 +23,144 @@ use wire_ends::WirePacket;
 /// A broker takes a packet of a client.
 pub(crate) fn serve(
     alloc: Global,
-    book: &mut BrokerState,
+    state: &mut BrokerState,
     client: u32,
     packet: &WirePacket,
     plan: &mut Plan,
 ) -> Result<(), Memory>
-    requires client { client < length book.old.broker.sessions }
-    requires can { CanWrite book.old.site book.old.broker }
+    requires client { client < length state.old.broker.sessions }
+    requires can { CanWrite state.old.site state.old.broker }
     requires empty { IsEmptyPlan plan.old }
-    ensures prepared { OnOk result (IsInputPrepared book.old.site book.old.broker (serve book.old.site book.old.broker client) (Some packet.now) plan.new) }
-    ensures room { OnOk result (HasRoom book.new.room plan.new) }
-    ensures kept { SameState book.old book.new }
+    ensures prepared { OnOk result (IsInputPrepared state.old.site state.old.broker (serve state.old.site state.old.broker client) (Some packet.now) plan.new) }
+    ensures room { OnOk result (HasRoom state.new.room plan.new) }
+    ensures kept { SameState state.old state.new }
 {
     match usual_send(packet) {
-        Some(came) if publishes(book, client, came) => {
-            prepare_publish(alloc, book, client, came, plan)
+        Some(came) if publishes(state, client, came) => {
+            prepare_publish(alloc, state, client, came, plan)
         }
-        _ => serve_read(alloc, book, client, packet, plan),
+        _ => serve_read(alloc, state, client, packet, plan),
     }
 }
 
 /// A packet of a client, read by all its parts.
 fn serve_read(
     alloc: Global,
-    book: &mut BrokerState,
+    state: &mut BrokerState,
     client: u32,
     packet: &WirePacket,
     plan: &mut Plan,
 ) -> Result<(), Memory>
-    requires client { client < length book.old.broker.sessions }
-    requires can { CanWrite book.old.site book.old.broker }
+    requires client { client < length state.old.broker.sessions }
+    requires can { CanWrite state.old.site state.old.broker }
     requires empty { IsEmptyPlan plan.old }
-    ensures prepared { OnOk result (IsInputPrepared book.old.site book.old.broker (serve book.old.site book.old.broker client) (Some packet.now) plan.new) }
-    ensures room { OnOk result (HasRoom book.new.room plan.new) }
-    ensures kept { SameState book.old book.new }
+    ensures prepared { OnOk result (IsInputPrepared state.old.site state.old.broker (serve state.old.site state.old.broker client) (Some packet.now) plan.new) }
+    ensures room { OnOk result (HasRoom state.new.room plan.new) }
+    ensures kept { SameState state.old state.new }
 {
-    let said = read_packet(alloc, book.site(), packet)?;
-    prepare_serve(alloc, book, client, Some(said), plan)
+    let said = read_packet(alloc, state.site(), packet)?;
+    prepare_serve(alloc, state, client, Some(said), plan)
 }
 
 /// A broker takes a packet of the forward link from a cluster.
 pub(crate) fn take(
     alloc: Global,
-    book: &mut BrokerState,
+    state: &mut BrokerState,
     source: u32,
     fate: Fate,
     packet: &WirePacket,
     plan: &mut Plan,
 ) -> Result<(), Memory>
-    requires source { source < length book.old.broker.receivers }
+    requires source { source < length state.old.broker.receivers }
     requires empty { IsEmptyPlan plan.old }
-    ensures prepared { OnOk result (IsInputPrepared book.old.site book.old.broker (take_packet book.old.site book.old.broker source fate) (Some packet.now) plan.new) }
-    ensures room { OnOk result (HasRoom book.new.room plan.new) }
-    ensures kept { SameState book.old book.new }
+    ensures prepared { OnOk result (IsInputPrepared state.old.site state.old.broker (take_packet state.old.site state.old.broker source fate) (Some packet.now) plan.new) }
+    ensures room { OnOk result (HasRoom state.new.room plan.new) }
+    ensures kept { SameState state.old state.new }
 {
     match fate {
-        Fate::Good => take_once(alloc, book, source, packet, plan),
-        Fate::Lost | Fate::Twice => take_read(alloc, book, source, fate, packet, plan),
+        Fate::Good => take_once(alloc, state, source, packet, plan),
+        Fate::Lost | Fate::Twice => take_read(alloc, state, source, fate, packet, plan),
     }
 }
 
 /// A packet of a forward link is acted on once.
 fn take_once(
     alloc: Global,
-    book: &mut BrokerState,
+    state: &mut BrokerState,
     source: u32,
     packet: &WirePacket,
     plan: &mut Plan,
 ) -> Result<(), Memory>
-    requires source { source < length book.old.broker.receivers }
+    requires source { source < length state.old.broker.receivers }
     requires empty { IsEmptyPlan plan.old }
-    ensures prepared { OnOk result (IsInputPrepared book.old.site book.old.broker (take_packet book.old.site book.old.broker source fate.Good) (Some packet.now) plan.new) }
-    ensures room { OnOk result (HasRoom book.new.room plan.new) }
-    ensures kept { SameState book.old book.new }
+    ensures prepared { OnOk result (IsInputPrepared state.old.site state.old.broker (take_packet state.old.site state.old.broker source fate.Good) (Some packet.now) plan.new) }
+    ensures room { OnOk result (HasRoom state.new.room plan.new) }
+    ensures kept { SameState state.old state.new }
 {
     match usual_send(packet) {
-        Some(came) if receives(book, source, came) => {
-            prepare_receive(alloc, book, source, came, plan)
+        Some(came) if receives(state, source, came) => {
+            prepare_receive(alloc, state, source, came, plan)
         }
-        _ => take_read(alloc, book, source, Fate::Good, packet, plan),
+        _ => take_read(alloc, state, source, Fate::Good, packet, plan),
     }
 }
 
 /// A packet of a forward link, read by all its parts.
 fn take_read(
     alloc: Global,
-    book: &mut BrokerState,
+    state: &mut BrokerState,
     source: u32,
     fate: Fate,
     packet: &WirePacket,
     plan: &mut Plan,
 ) -> Result<(), Memory>
-    requires source { source < length book.old.broker.receivers }
+    requires source { source < length state.old.broker.receivers }
     requires empty { IsEmptyPlan plan.old }
-    ensures prepared { OnOk result (IsInputPrepared book.old.site book.old.broker (take_packet book.old.site book.old.broker source fate) (Some packet.now) plan.new) }
-    ensures room { OnOk result (HasRoom book.new.room plan.new) }
-    ensures kept { SameState book.old book.new }
+    ensures prepared { OnOk result (IsInputPrepared state.old.site state.old.broker (take_packet state.old.site state.old.broker source fate) (Some packet.now) plan.new) }
+    ensures room { OnOk result (HasRoom state.new.room plan.new) }
+    ensures kept { SameState state.old state.new }
 {
-    let said = read_packet(alloc, book.site(), packet)?;
-    prepare_take(alloc, book, source, fate, Some(said), plan)
+    let said = read_packet(alloc, state.site(), packet)?;
+    prepare_take(alloc, state, source, fate, Some(said), plan)
 }
 
 /// A broker receives a packet of the back link from a cluster.
 pub(crate) fn receive(
     alloc: Global,
-    book: &mut BrokerState,
+    state: &mut BrokerState,
     target: u32,
     fate: Fate,
     packet: &WirePacket,
     plan: &mut Plan,
 ) -> Result<(), Memory>
-    requires target { target < length book.old.broker.senders }
+    requires target { target < length state.old.broker.replicators }
     requires empty { IsEmptyPlan plan.old }
-    ensures prepared { OnOk result (IsInputPrepared book.old.site book.old.broker (receipt book.old.site book.old.broker target fate) (Some packet.now) plan.new) }
-    ensures room { OnOk result (HasRoom book.new.room plan.new) }
-    ensures kept { SameState book.old book.new }
+    ensures prepared { OnOk result (IsInputPrepared state.old.site state.old.broker (receipt state.old.site state.old.broker target fate) (Some packet.now) plan.new) }
+    ensures room { OnOk result (HasRoom state.new.room plan.new) }
+    ensures kept { SameState state.old state.new }
 {
     match usual_receipt(packet) {
-        Some(answer) => receive_usual(book, target, fate, packet, answer, plan),
-        None => receive_read(alloc, book, target, fate, packet, plan),
+        Some(answer) => receive_usual(state, target, fate, packet, answer, plan),
+        None => receive_read(alloc, state, target, fate, packet, plan),
     }
 }
 
 /// A receipt of the usual form.
 #[tactic(auto, using(crate::proofs::Inputs::receipt_prepared))]
 fn receive_usual(
-    book: &mut BrokerState,
+    state: &mut BrokerState,
     target: u32,
     fate: Fate,
     packet: &WirePacket,
     answer: Receipt,
     plan: &mut Plan,
 ) -> Result<(), Memory>
-    requires target { target < length book.old.broker.senders }
+    requires target { target < length state.old.broker.replicators }
     requires said { IsReceiptOf packet.now answer }
     requires empty { IsEmptyPlan plan.old }
-    ensures prepared { OnOk result (IsInputPrepared book.old.site book.old.broker (receipt book.old.site book.old.broker target fate) (Some packet.now) plan.new) }
-    ensures room { OnOk result (HasRoom book.new.room plan.new) }
-    ensures kept { SameState book.old book.new }
+    ensures prepared { OnOk result (IsInputPrepared state.old.site state.old.broker (receipt state.old.site state.old.broker target fate) (Some packet.now) plan.new) }
+    ensures room { OnOk result (HasRoom state.new.room plan.new) }
+    ensures kept { SameState state.old state.new }
 {
     let Receipt { id, seq, position } = answer;
     let said = Packet {
@@ -172,7 +172,7 @@ fn receive_usual(
             position: Some(position),
         },
     };
-    let prepared = prepare_receipt(book, target, fate, Some(&said), plan);
+    let prepared = prepare_receipt(state, target, fate, Some(&said), plan);
     drop(said);
     prepared
 }
@@ -180,20 +180,20 @@ fn receive_usual(
 /// A packet of a back link, read by all its parts.
 fn receive_read(
     alloc: Global,
-    book: &mut BrokerState,
+    state: &mut BrokerState,
     target: u32,
     fate: Fate,
     packet: &WirePacket,
     plan: &mut Plan,
 ) -> Result<(), Memory>
-    requires target { target < length book.old.broker.senders }
+    requires target { target < length state.old.broker.replicators }
     requires empty { IsEmptyPlan plan.old }
-    ensures prepared { OnOk result (IsInputPrepared book.old.site book.old.broker (receipt book.old.site book.old.broker target fate) (Some packet.now) plan.new) }
-    ensures room { OnOk result (HasRoom book.new.room plan.new) }
-    ensures kept { SameState book.old book.new }
+    ensures prepared { OnOk result (IsInputPrepared state.old.site state.old.broker (receipt state.old.site state.old.broker target fate) (Some packet.now) plan.new) }
+    ensures room { OnOk result (HasRoom state.new.room plan.new) }
+    ensures kept { SameState state.old state.new }
 {
-    let said = read_packet(alloc, book.site(), packet)?;
-    let prepared = prepare_receipt(book, target, fate, Some(&said), plan);
+    let said = read_packet(alloc, state.site(), packet)?;
+    let prepared = prepare_receipt(state, target, fate, Some(&said), plan);
     // by a call, so that the end of a packet is proved by itself
     drop(said);
     prepared

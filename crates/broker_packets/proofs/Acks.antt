@@ -29,10 +29,10 @@ use Rattle.broker_subs.specs.declared.changing.SubChange.TheVariants as sub_chan
 use Rattle.broker_subs.specs.declared.writing.SubWrite.{SubWrite}
 use Rattle.broker_subs.specs.declared.writing.SubWrite.TheVariants as sub_write
 use Rattle.broker_state.specs.Fits.{ChangesNamed}
-use Rattle.broker_state.specs.Plan.{PlanBook, quiet_book}
+use Rattle.broker_state.specs.Plan.{PlanView, quiet_view}
 use Rattle.broker_state.specs.Room.{HasRoom, Room, WritesHaveRoom}
-use Rattle.broker_state.specs.declared.change.BookChange.TheVariants as book_change
-use Rattle.broker_state.specs.declared.write.BookWrite.{BookWrite}
+use Rattle.broker_state.specs.declared.change.StateChange.TheVariants as state_change
+use Rattle.broker_state.specs.declared.write.StateWrite.{StateWrite}
 use Rattle.broker_state.specs.Site.{IsSite}
 use Rattle.broker_plans.specs.Prepared.{IsPrepared}
 use Rattle.broker_plans.specs.Storable.{IsWritable}
@@ -128,18 +128,18 @@ pub some_acks : (h : Site) (b : Broker) (s : Subscription) (is : List ℕ) (i : 
 some_acks h b s is i more e = rw e refl
 
 -- the event that writes the cursor of the subscription at place k
-abbrev pub ack_book : ℕ → SubWrite → Option BookWrite → PlanBook
-ack_book k w o = record (quiet_book k) { writes = cursor_writes w o; changes = book_change.Sub sub_change.Acked ∷ [] }
+abbrev pub ack_view : ℕ → SubWrite → Option StateWrite → PlanView
+ack_view k w o = record (quiet_view k) { writes = cursor_writes w o; changes = state_change.Sub sub_change.Acked ∷ [] }
 
-pub acked : (h : Site) (b : Broker) (k : ℕ) (w : SubWrite) (p : PlanBook) → IsSite h → IsWritable h b → k < length b.subs → is_name (sub_at b.subs k).name ≡ true → SubWriteFits b.entries (sub_at b.subs k) w
-    → p ≡ ack_book k w (update_after h b k w (sub_at b.subs k).cache)
+pub acked : (h : Site) (b : Broker) (k : ℕ) (w : SubWrite) (p : PlanView) → IsSite h → IsWritable h b → k < length b.subs → is_name (sub_at b.subs k).name ≡ true → SubWriteFits b.entries (sub_at b.subs k) w
+    → p ≡ ack_view k w (update_after h b k w (sub_at b.subs k).cache)
     → IsPrepared h b (plan_of (cursor_write h b (sub_at b.subs k) (machine_sub_write (sub_at b.subs k).name b.entries w)) (change.Acked (sub_at b.subs k).name ∷ []) []) p
 acked h b k w p site writable within named fits is =
     let s = sub_at b.subs k in
-    let names : ChangesNamed s.name k (names_of b.subs) (book_change.Sub sub_change.Acked ∷ []) = (name_there b.subs k within, tt) in
+    let names : ChangesNamed s.name k (names_of b.subs) (state_change.Sub sub_change.Acked ∷ []) = (name_there b.subs k within, tt) in
     let o = update_after h b k w s.cache in
     rw is
-    (with_name h b (plan_of (cursor_write h b s (machine_sub_write s.name b.entries w)) (change.Acked s.name ∷ []) []) (ack_book k w o) s.name (rw (there b.subs k within) refl)
+    (with_name h b (plan_of (cursor_write h b s (machine_sub_write s.name b.entries w)) (change.Acked s.name ∷ []) []) (ack_view k w o) s.name (rw (there b.subs k within) refl)
     (ap (λ (ws : List Write). plan_of ws (change.Acked s.name ∷ []) []) (cursor_steps h b k w s.cache)) tt
     (record {
       writes_named = cursor_named h b k w s.cache within;
@@ -149,11 +149,11 @@ acked h b k w p site writable within named fits is =
     })
     (record { writes = cursor_stored h b s b.entries w site named (cache_at h b.subs k writable.caches); changes = tt }))
 
-pub ack_room : (room : Room) (k : ℕ) (w : SubWrite) (o : Option BookWrite) (p : PlanBook) → WritesHaveRoom room k (cursor_writes w o) → p ≡ ack_book k w o → HasRoom room p
-ack_room room k w o p writes is = rw is (record { writes = writes; given = omega arith; senders = omega (arith, writes.senders) })
+pub ack_room : (room : Room) (k : ℕ) (w : SubWrite) (o : Option StateWrite) (p : PlanView) → WritesHaveRoom room k (cursor_writes w o) → p ≡ ack_view k w o → HasRoom room p
+ack_room room k w o p writes is = rw is (record { writes = writes; given = omega arith; replicators = omega (arith, writes.replicators) })
 
-pub ack_is : (k : ℕ) (w : SubWrite) (o : Option BookWrite) (q p : PlanBook) → q ≡ record (quiet_book k) { writes = cursor_writes w o } → p ≡ record q { changes = q.changes ++ book_change.Sub sub_change.Acked ∷ [] } → p ≡ ack_book k w o
+pub ack_is : (k : ℕ) (w : SubWrite) (o : Option StateWrite) (q p : PlanView) → q ≡ record (quiet_view k) { writes = cursor_writes w o } → p ≡ record q { changes = q.changes ++ state_change.Sub sub_change.Acked ∷ [] } → p ≡ ack_view k w o
 ack_is k w o q p begun is = is ∙ rw begun refl
 
-pub after_is : (k : ℕ) (w : SubWrite) (o u : Option BookWrite) (p : PlanBook) → o ≡ u → p ≡ ack_book k w o → p ≡ ack_book k w u
-after_is k w o u p same is = is ∙ ap (λ (x : Option BookWrite). ack_book k w x) same
+pub after_is : (k : ℕ) (w : SubWrite) (o u : Option StateWrite) (p : PlanView) → o ≡ u → p ≡ ack_view k w o → p ≡ ack_view k w u
+after_is k w o u p same is = is ∙ ap (λ (x : Option StateWrite). ack_view k w x) same

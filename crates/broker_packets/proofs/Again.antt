@@ -4,7 +4,7 @@ use Rattle.std.specs.Prelude.{if◌then◌else◌, ◌++◌}
 use Rattle.geo_base.specs.Broker.{Broker}
 use Rattle.geo_base.specs.Plan.{Plan, done, plan_of, twice}
 
--- a plan and the one behind it
+-- a plan and the one after it
 abbrev pub both : Plan → Plan → Plan
 both p q = if p.idle then p else plan_of (p.writes ++ q.writes) (p.changes ++ q.changes) (p.sent ++ q.sent)
 

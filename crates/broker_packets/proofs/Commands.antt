@@ -6,7 +6,7 @@ use Rattle.geo_base.specs.declared.frame.AckKind.{AckKind}
 use Rattle.geo_base.specs.declared.frame.Frame.{Frame}
 use Rattle.geo_base.specs.declared.frame.Frame.TheVariants as frame
 use Rattle.geo_base.specs.declared.frame.SubKind.{SubKind}
-use Rattle.geo_base.specs.declared.marker.Place.{Place}
+use Rattle.geo_base.specs.declared.marker.ClusterRef.{ClusterRef}
 use Rattle.geo_base.specs.declared.packet.Packet.{Packet}
 use Rattle.geo_base.specs.declared.position.Position.{Position}
 use Rattle.geo_base.specs.declared.session.Session.{Session}
@@ -45,7 +45,7 @@ in_session h b c p frame.Pong no_connect no_unreadable = refl
 in_session h b c p frame.Unreadable no_connect no_unreadable = absurd (no_unreadable refl)
 
 -- no command of a producer
-pub not_producers : (f : Frame) → ((topic : List ℕ) (id request : ℕ) (name : Option (List ℕ)) → f ≢ frame.Producer topic id request name) → ((id seq : ℕ) (source : Option Place) (e : Entry) → f ≢ frame.Send id seq source e) → ((id request : ℕ) → f ≢ frame.CloseProducer id request)
+pub not_producers : (f : Frame) → ((topic : List ℕ) (id request : ℕ) (name : Option (List ℕ)) → f ≢ frame.Producer topic id request name) → ((id seq : ℕ) (source : Option ClusterRef) (e : Entry) → f ≢ frame.Send id seq source e) → ((id request : ℕ) → f ≢ frame.CloseProducer id request)
     → is_producers f ≡ false
 not_producers frame.Connect no_producer no_send no_close_producer = refl
 not_producers frame.Connected no_producer no_send no_close_producer = refl

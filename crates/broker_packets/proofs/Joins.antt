@@ -18,53 +18,50 @@ use Rattle.geo_base.specs.Name.{is_name}
 use Rattle.geo_base.specs.Subscribing.{altering, has_room, is_busy, joins, same_kind, serve_subscribe, subscribes}
 use Rattle.geo_base.specs.Subscription.{Subscription, is_attached, new_subscription}
 use Rattle.dispatcher.specs.Dispatch.{turns_away}
-use Rattle.broker_subs.specs.SubBook.{SubBook}
+use Rattle.broker_subs.specs.SubView.{SubView}
 use Rattle.broker_subs.specs.Table.{names_of, room_at, sub_at}
 use Rattle.broker_subs.specs.declared.writing.SubWrite.TheVariants as sub_write
-use Rattle.broker_state.specs.Plan.{PlanBook, name_in, quiet_book}
+use Rattle.broker_state.specs.Plan.{PlanView, name_in, quiet_view}
 use Rattle.broker_packets.proofs.Shapes.{chosen, plan_at, with_name}
 use Rattle.broker_subs.specs.declared.writing.SubWrite.{SubWrite}
 use Rattle.broker_state.specs.Room.{HasRoom, Room}
-use Rattle.broker_state.specs.declared.change.BookChange.{BookChange}
-use Rattle.broker_state.specs.declared.write.BookWrite.TheVariants as book_write
+use Rattle.broker_state.specs.declared.change.StateChange.{StateChange}
+use Rattle.broker_state.specs.declared.write.StateWrite.TheVariants as state_write
 use Rattle.broker_plans.specs.Prepared.{IsPrepared}
 use Rattle.broker_plans.proofs.Places.{name_there, there}
 use Rattle.broker_packets.specs.Subscribing.{alter_writes, altered, attach, denial, joining}
+use Rattle.geo_base.proofs.Lists.{get_pushed}
 
 -- ---- one that is created
 
-last_of : (ns : List (List ℕ)) (n : List ℕ) → slice_get (ns ++ n ∷ []) (length ns) ≡ Some n
-last_of [] n = refl
-last_of (m ∷ ns) n = last_of ns n
+abbrev pub create_view : ℕ → ℕ → ℕ → SubView → Bool → PlanView
+create_view k c id sub latest = record (quiet_view k) { writes = state_write.Create sub latest ∷ []; changes = attach c id ∷ [] }
 
-abbrev pub create_book : ℕ → ℕ → ℕ → SubBook → Bool → PlanBook
-create_book k c id sub latest = record (quiet_book k) { writes = book_write.Create sub latest ∷ []; changes = attach c id ∷ [] }
-
-pub creates : (h : Site) (b : Broker) (c id : ℕ) (n : List ℕ) (kind : SubKind) (replicated latest : Bool) (sub : SubBook) (p : PlanBook) → sub_named b.subs n ≡ None → sub.sub ≡ new_subscription n kind replicated []
-    → p ≡ create_book (length b.subs) c id sub latest
+pub creates : (h : Site) (b : Broker) (c id : ℕ) (n : List ℕ) (kind : SubKind) (replicated latest : Bool) (sub : SubView) (p : PlanView) → sub_named b.subs n ≡ None → sub.sub ≡ new_subscription n kind replicated []
+    → p ≡ create_view (length b.subs) c id sub latest
     → IsPrepared h b (joining c n id (write.Create n kind replicated latest ∷ [])) p
 creates h b c id n kind replicated latest sub p missing new is =
     let past : slice_get b.subs (length b.subs) ≡ None = slice_get_past b.subs (length b.subs) (omega arith) in
     let many : length b.subs ≡ length (names_of b.subs) = sym (length-map b.subs (λ (s : Subscription). s.name)) in
-    let last : slice_get (names_of b.subs ++ n ∷ []) (length b.subs) ≡ Some n = rw many (last_of (names_of b.subs) n) in
-    let named : name_in b.subs (create_book (length b.subs) c id sub latest) ≡ n = rw past (ap (λ (t : Subscription). t.name) new) in
+    let last : slice_get (names_of b.subs ++ n ∷ []) (length b.subs) ≡ Some n = rw many (get_pushed (names_of b.subs) n) in
+    let named : name_in b.subs (create_view (length b.subs) c id sub latest) ≡ n = rw past (ap (λ (t : Subscription). t.name) new) in
     rw is
-    (with_name h b (joining c n id (write.Create n kind replicated latest ∷ [])) (create_book (length b.subs) c id sub latest) n named
+    (with_name h b (joining c n id (write.Create n kind replicated latest ∷ [])) (create_view (length b.subs) c id sub latest) n named
     (ap (λ (t : Subscription). joining c n id (write.Create t.name t.kind t.replicated latest ∷ [])) new) tt
     (record { writes_named = ((many, ap (λ (t : Subscription). t.name) new), tt); changes_named = (rw new last, tt); writes = ((rw new refl, rw new missing), tt); changes = (tt, tt) })
     (record { writes = tt; changes = tt }))
 
-pub create_room : (room : Room) (k c id : ℕ) (latest : Bool) (sub : SubBook) (p : PlanBook) → room.places ≡ 1 → sub.room ≡ 1 → 1 ≤ sub.acks
-    → p ≡ create_book k c id sub latest → HasRoom room p
+pub create_room : (room : Room) (k c id : ℕ) (latest : Bool) (sub : SubView) (p : PlanView) → room.places ≡ 1 → sub.room ≡ 1 → 1 ≤ sub.acks
+    → p ≡ create_view k c id sub latest → HasRoom room p
 create_room room k c id latest sub p places own acks is =
-    rw is (record { writes = record { entries = omega arith; streams = omega arith; places = omega (arith, places); acks = (acks, tt); senders = omega arith }; given = omega (arith, own); senders = omega arith })
+    rw is (record { writes = record { entries = omega arith; streams = omega arith; places = omega (arith, places); acks = (acks, tt); replicators = omega arith }; given = omega (arith, own); replicators = omega arith })
 
-pub create_is : (k j c id : ℕ) (latest : Bool) (sub : SubBook) (x : BookChange) (q r p : PlanBook) → j ≡ k → q ≡ quiet_book j → r ≡ record q { writes = q.writes ++ book_write.Create sub latest ∷ [] }
-    → x ≡ attach c id → p ≡ record r { changes = r.changes ++ x ∷ [] } → p ≡ create_book k c id sub latest
+pub create_is : (k j c id : ℕ) (latest : Bool) (sub : SubView) (x : StateChange) (q r p : PlanView) → j ≡ k → q ≡ quiet_view j → r ≡ record q { writes = q.writes ++ state_write.Create sub latest ∷ [] }
+    → x ≡ attach c id → p ≡ record r { changes = r.changes ++ x ∷ [] } → p ≡ create_view k c id sub latest
 create_is k j c id latest sub x q r p many quiet written comes is = is ∙ rw (written, quiet, many, comes) refl
 
 -- a new subscription of a name that was made of the text n
-pub new_of : (n m : List ℕ) (kind : SubKind) (replicated : Bool) (sub : SubBook) → m ≡ n → sub.sub ≡ new_subscription m kind replicated [] → sub.sub ≡ new_subscription n kind replicated []
+pub new_of : (n m : List ℕ) (kind : SubKind) (replicated : Bool) (sub : SubView) → m ≡ n → sub.sub ≡ new_subscription m kind replicated [] → sub.sub ≡ new_subscription n kind replicated []
 new_of n m kind replicated sub name new = new ∙ rw name refl
 
 -- ---- one that is here
@@ -98,46 +95,46 @@ free_kind s kind free some =
     subst (λ (b : Bool). (b && (not (same_kind kind s.kind) || same_kind kind sub_kind.Exclusive)) ≡ false) (lt-ltb 0 (length s.consumers) some) free in
     kind_is kind s.kind (same_where_free (same_kind kind s.kind) (same_kind kind sub_kind.Exclusive) tested)
 
-abbrev pub join_book : ℕ → ℕ → ℕ → Option SubWrite → PlanBook
-join_book k c id o = record (quiet_book k) { writes = alter_writes o; changes = attach c id ∷ [] }
+abbrev pub join_view : ℕ → ℕ → ℕ → Option SubWrite → PlanView
+join_view k c id o = record (quiet_view k) { writes = alter_writes o; changes = attach c id ∷ [] }
 
 abbrev alters : Subscription → SubKind → Bool → Bool → List Write
 alters s kind r b = if b then [] else write.Alter s.name kind (s.replicated || r) ∷ []
 
-altered_is : (h : Site) (b : Broker) (k c id : ℕ) (kind : SubKind) (r keep : Bool) (p : PlanBook) → k < length b.subs → is_busy kind (sub_at b.subs k) ≡ false
-    → p ≡ join_book k c id (if keep then None else Some (sub_write.Alter kind ((sub_at b.subs k).replicated || r)))
+altered_is : (h : Site) (b : Broker) (k c id : ℕ) (kind : SubKind) (r keep : Bool) (p : PlanView) → k < length b.subs → is_busy kind (sub_at b.subs k) ≡ false
+    → p ≡ join_view k c id (if keep then None else Some (sub_write.Alter kind ((sub_at b.subs k).replicated || r)))
     → IsPrepared h b (joining c (sub_at b.subs k).name id (alters (sub_at b.subs k) kind r keep)) p
 altered_is h b k c id kind r true p within free is =
     let n = (sub_at b.subs k).name in
     rw is
-    (with_name h b (joining c n id []) (join_book k c id None) n (rw (there b.subs k within) refl) refl tt
+    (with_name h b (joining c n id []) (join_view k c id None) n (rw (there b.subs k within) refl) refl tt
     (record { writes_named = tt; changes_named = (name_there b.subs k within, tt); writes = tt; changes = (tt, tt) })
     (record { writes = tt; changes = tt }))
 altered_is h b k c id kind r false p within free is =
     let s = sub_at b.subs k in
     rw is
-    (with_name h b (joining c s.name id (write.Alter s.name kind (s.replicated || r) ∷ [])) (join_book k c id (Some (sub_write.Alter kind (s.replicated || r)))) s.name (rw (there b.subs k within) refl) refl tt
+    (with_name h b (joining c s.name id (write.Alter s.name kind (s.replicated || r) ∷ [])) (join_view k c id (Some (sub_write.Alter kind (s.replicated || r)))) s.name (rw (there b.subs k within) refl) refl tt
     (record { writes_named = (name_there b.subs k within, tt); changes_named = (name_there b.subs k within, tt); writes = ((refl, λ some. free_kind s kind free some), tt); changes = (tt, tt) })
     (record { writes = tt; changes = tt }))
 
-pub joined : (h : Site) (b : Broker) (k c id : ℕ) (kind : SubKind) (r : Bool) (p : PlanBook) → k < length b.subs → is_busy kind (sub_at b.subs k) ≡ false
-    → p ≡ join_book k c id (altered (sub_at b.subs k) kind r)
+pub joined : (h : Site) (b : Broker) (k c id : ℕ) (kind : SubKind) (r : Bool) (p : PlanView) → k < length b.subs → is_busy kind (sub_at b.subs k) ≡ false
+    → p ≡ join_view k c id (altered (sub_at b.subs k) kind r)
     → IsPrepared h b (joining c (sub_at b.subs k).name id (altering (sub_at b.subs k) kind r)) p
 joined h b k c id kind r p within free is = altered_is h b k c id kind r (same_kind kind (sub_at b.subs k).kind && ((sub_at b.subs k).replicated || not r)) p within free is
 
-room_is : (room : Room) (k c id : ℕ) (kind : SubKind) (r keep : Bool) (p : PlanBook) → (room_at room.subs k).room ≡ 1
-    → p ≡ join_book k c id (if keep then None else Some (sub_write.Alter kind r)) → HasRoom room p
+room_is : (room : Room) (k c id : ℕ) (kind : SubKind) (r keep : Bool) (p : PlanView) → (room_at room.subs k).room ≡ 1
+    → p ≡ join_view k c id (if keep then None else Some (sub_write.Alter kind r)) → HasRoom room p
 room_is room k c id kind r true p given is =
-    rw is (record { writes = record { entries = omega arith; streams = omega arith; places = omega arith; acks = tt; senders = omega arith }; given = omega (arith, given); senders = omega arith })
+    rw is (record { writes = record { entries = omega arith; streams = omega arith; places = omega arith; acks = tt; replicators = omega arith }; given = omega (arith, given); replicators = omega arith })
 room_is room k c id kind r false p given is =
-    rw is (record { writes = record { entries = omega arith; streams = omega arith; places = omega arith; acks = (omega arith, tt); senders = omega arith }; given = omega (arith, given); senders = omega arith })
+    rw is (record { writes = record { entries = omega arith; streams = omega arith; places = omega arith; acks = (omega arith, tt); replicators = omega arith }; given = omega (arith, given); replicators = omega arith })
 
-pub join_room : (room : Room) (k c id : ℕ) (s : Subscription) (kind : SubKind) (r : Bool) (p : PlanBook) → (room_at room.subs k).room ≡ 1
-    → p ≡ join_book k c id (altered s kind r) → HasRoom room p
+pub join_room : (room : Room) (k c id : ℕ) (s : Subscription) (kind : SubKind) (r : Bool) (p : PlanView) → (room_at room.subs k).room ≡ 1
+    → p ≡ join_view k c id (altered s kind r) → HasRoom room p
 join_room room k c id s kind r p given is = room_is room k c id kind (s.replicated || r) (same_kind kind s.kind && (s.replicated || not r)) p given is
 
-pub join_is : (k c id : ℕ) (o u : Option SubWrite) (x : BookChange) (q p : PlanBook) → o ≡ u → q ≡ record (quiet_book k) { writes = alter_writes o } → x ≡ attach c id → p ≡ record q { changes = q.changes ++ x ∷ [] }
-    → p ≡ join_book k c id u
+pub join_is : (k c id : ℕ) (o u : Option SubWrite) (x : StateChange) (q p : PlanView) → o ≡ u → q ≡ record (quiet_view k) { writes = alter_writes o } → x ≡ attach c id → p ≡ record q { changes = q.changes ++ x ∷ [] }
+    → p ≡ join_view k c id u
 join_is k c id o u x q p same plan comes is = is ∙ rw (plan, same, comes) refl
 
 -- ---- SUBSCRIBE

@@ -7,7 +7,7 @@ use Rattle.std.proofs.lemmas.Bool.Decides.{nat_tests}
 use Rattle.geo_base.specs.declared.entry.Entry.{Entry}
 use Rattle.geo_base.specs.declared.frame.Frame.{Frame}
 use Rattle.geo_base.specs.declared.frame.Frame.TheVariants as frame
-use Rattle.geo_base.specs.declared.marker.Place.{Place}
+use Rattle.geo_base.specs.declared.marker.ClusterRef.{ClusterRef}
 use Rattle.geo_base.specs.declared.packet.Peer.TheVariants as peer
 use Rattle.geo_base.specs.declared.position.Position.{Position}
 use Rattle.geo_base.specs.declared.session.AttachedProducer.{AttachedProducer}
@@ -19,12 +19,13 @@ use Rattle.geo_base.specs.Plan.{plan_of}
 use Rattle.geo_base.specs.Producing.{attaches, is_sound, is_taken, may_attach, name_with, serve_close_producer, serve_producer, serve_send, stores, with_producers, without_producer}
 use Rattle.geo_base.specs.Sizes.{entry_size, most_entry_size}
 use Rattle.geo_base.specs.Storing.{receipt_position, storing}
-use Rattle.broker_state.specs.Plan.{PlanBook}
+use Rattle.broker_state.specs.Plan.{PlanView}
 use Rattle.broker_plans.specs.Prepared.{AlsoSends, IsPrepared}
 use Rattle.broker_plans.specs.Storable.{IsReadEntry, IsStorable}
 use Rattle.broker_packets.specs.Producing.{has_id, published, refusal}
 use Rattle.broker_packets.specs.Serving.{open_at}
 use Rattle.broker_packets.proofs.Shapes.{answers_more, chosen, plan_at}
+pub use Rattle.geo_base.proofs.Bools.{and_second as last_true}
 
 producer_served : (h : Site) (b : Broker) (c : ℕ) (s : Session) (topic : List ℕ) (id request : ℕ) (n : List ℕ) → serve_producer h b c s topic id request (Some n) ≡ plan_at (refusal h b c topic n) (λ code. refuses c s request code) (attaches c s id request n)
 producer_served h b c s topic id request n =
@@ -54,36 +55,32 @@ short_name n may = grind (arith, nat_tests)
 
 -- ---- what a producer publishes
 
-pub sound_sent : (h : Site) (b : Broker) (c : ℕ) (s : Session) (id seq : ℕ) (source : Option Place) (e : Entry) (o : Option (List ℕ)) → published h o seq source e ≡ true
+pub sound_sent : (h : Site) (b : Broker) (c : ℕ) (s : Session) (id seq : ℕ) (source : Option ClusterRef) (e : Entry) (o : Option (List ℕ)) → published h o seq source e ≡ true
     → serve_send h b c s id seq source e o ≡ stores h b c s id seq (with_origin h.own e)
 sound_sent h b c s id seq source e None sound = absurd cc
 sound_sent h b c s id seq source e (Some n) sound = rw sound refl
 
-pub unsound_sent : (h : Site) (b : Broker) (c : ℕ) (s : Session) (id seq : ℕ) (source : Option Place) (e : Entry) (o : Option (List ℕ)) → published h o seq source e ≡ false
+pub unsound_sent : (h : Site) (b : Broker) (c : ℕ) (s : Session) (id seq : ℕ) (source : Option ClusterRef) (e : Entry) (o : Option (List ℕ)) → published h o seq source e ≡ false
     → serve_send h b c s id seq source e o ≡ answers c s (frame.SendError id seq unknown_error)
 unsound_sent h b c s id seq source e None sound = refl
 unsound_sent h b c s id seq source e (Some n) sound = rw sound refl
 
-pub last_true : (x y : Bool) → (x && y) ≡ true → y ≡ true
-last_true true y h = h
-last_true false y h = absurd cc
-
-small_enough : (h : Site) (n : List ℕ) (seq : ℕ) (source : Option Place) (e : Entry) → is_sound h n seq source e ≡ true → entry_size h.clusters e ≤ most_entry_size
+small_enough : (h : Site) (n : List ℕ) (seq : ℕ) (source : Option ClusterRef) (e : Entry) → is_sound h n seq source e ≡ true → entry_size h.clusters e ≤ most_entry_size
 small_enough h n seq source e sound =
     leb-true (entry_size h.clusters e) most_entry_size
     (last_true (bytes_eq n e.ident.producer && (seq == e.ident.seq) && is_none source && is_data e.content) (nat_le (entry_size h.clusters e) most_entry_size) sound)
 
-pub sound_storable : (h : Site) (seq : ℕ) (source : Option Place) (e : Entry) (o : Option (List ℕ)) → published h o seq source e ≡ true → IsReadEntry e → IsStorable h (with_origin h.own e)
+pub sound_storable : (h : Site) (seq : ℕ) (source : Option ClusterRef) (e : Entry) (o : Option (List ℕ)) → published h o seq source e ≡ true → IsReadEntry e → IsStorable h (with_origin h.own e)
 sound_storable h seq source e None sound read = absurd cc
 sound_storable h seq source e (Some n) sound read = record {
   read = record { rest = read.rest; marker = read.marker };
   size = rw (eq-eqb h.own h.own refl) (omega (arith, small_enough h n seq source e sound));
 }
 
--- ---- with the answer behind it
+-- ---- with the answer after it
 
 -- the session's producers as the code has them
-pub having_more : (h : Site) (b : Broker) (c : ℕ) (f : Frame) (ps qs : List AttachedProducer) (p q : PlanBook) → ps ≡ qs → IsPrepared h b (plan_of [] (with_producers c (open_at b c) ps ∷ []) []) p
+pub having_more : (h : Site) (b : Broker) (c : ℕ) (f : Frame) (ps qs : List AttachedProducer) (p q : PlanView) → ps ≡ qs → IsPrepared h b (plan_of [] (with_producers c (open_at b c) ps ∷ []) []) p
     → AlsoSends h.clusters (record { to = peer.Client c; session = (open_at b c).number; frame = f }) p q
     → IsPrepared h b (plan_of [] (with_producers c (open_at b c) qs ∷ []) (answer c (open_at b c) f)) q
 having_more h b c f ps qs p q same is sends =
@@ -91,13 +88,13 @@ having_more h b c f ps qs p q same is sends =
     (subst (λ (xs : List AttachedProducer). IsPrepared h b (plan_of [] (with_producers c (open_at b c) xs ∷ []) []) p) same is) sends
 
 -- a message as the code has it, which bears the own cluster's number, and the position that its receipt names
-pub stored_more : (h now_h : Site) (b now : Broker) (c id seq own : ℕ) (e : Entry) (at : Position) (p q : PlanBook) → now_h ≡ h → now ≡ b → own ≡ h.own → IsPrepared h b (plan_of (storing b (with_origin own e)) [] []) p
+pub stored_more : (h now_h : Site) (b now : Broker) (c id seq own : ℕ) (e : Entry) (at : Position) (p q : PlanView) → now_h ≡ h → now ≡ b → own ≡ h.own → IsPrepared h b (plan_of (storing b (with_origin own e)) [] []) p
     → Some at ≡ receipt_position h.per_ledger b (with_origin own e) → AlsoSends now_h.clusters (record { to = peer.Client c; session = (open_at now c).number; frame = frame.SendReceipt id seq (Some at) }) p q
     → IsPrepared h b (stores h b c (open_at b c) id seq (with_origin h.own e)) q
-stored_more h now_h b now c id seq own e at p q same_h same is_own is place sends =
+stored_more h now_h b now c id seq own e at p q same_h same is_own is sub_index sends =
     subst (λ (x : ℕ). IsPrepared h b (stores h b c (open_at b c) id seq (with_origin x e)) q) is_own
     (answers_more h b now c (frame.SendReceipt id seq (receipt_position h.per_ledger b (with_origin own e))) (storing b (with_origin own e)) [] p q same is
-    (subst (λ (o : Option Position). AlsoSends h.clusters (record { to = peer.Client c; session = (open_at now c).number; frame = frame.SendReceipt id seq o }) p q) place
+    (subst (λ (o : Option Position). AlsoSends h.clusters (record { to = peer.Client c; session = (open_at now c).number; frame = frame.SendReceipt id seq o }) p q) sub_index
     (subst (λ (g : Site). AlsoSends g.clusters (record { to = peer.Client c; session = (open_at now c).number; frame = frame.SendReceipt id seq (Some at) }) p q) same_h sends)))
 
 -- ---- CLOSE_PRODUCER

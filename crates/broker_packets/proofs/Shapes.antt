@@ -20,11 +20,11 @@ use Rattle.geo_base.specs.Subscription.{Subscription}
 use Rattle.broker_subs.specs.Table.{sub_at}
 use Rattle.broker_subs.specs.declared.changing.SubChange.TheVariants as sub_change
 use Rattle.broker_state.specs.Fits.{NamedFits}
-use Rattle.broker_state.specs.Plan.{PlanBook, idle_book, name_in, named_plan, quiet_book}
+use Rattle.broker_state.specs.Plan.{PlanView, idle_view, name_in, named_plan, quiet_view}
 use Rattle.broker_state.specs.Room.{HasRoom, Room}
-use Rattle.broker_state.specs.declared.change.BookChange.{BookChange}
-use Rattle.broker_state.specs.declared.change.BookChange.TheVariants as book_change
-use Rattle.broker_state.specs.declared.write.BookWrite.TheVariants as book_write
+use Rattle.broker_state.specs.declared.change.StateChange.{StateChange}
+use Rattle.broker_state.specs.declared.change.StateChange.TheVariants as state_change
+use Rattle.broker_state.specs.declared.write.StateWrite.TheVariants as state_write
 use Rattle.broker_plans.specs.Prepared.{AlsoSends, ArePackets, IsPrepared, unsent}
 use Rattle.broker_plans.specs.Storable.{PlanStorable}
 use Rattle.broker_plans.proofs.Keeping.{sends_more}
@@ -32,7 +32,7 @@ use Rattle.broker_plans.proofs.Places.{name_there, there}
 use Rattle.broker_packets.specs.Serving.{connected, connects, open_at}
 
 -- an event about a subscription whose name is known
-pub with_name : (h : Site) (b : Broker) (plan : Plan) (p : PlanBook) (n : List ℕ) → name_in b.subs p ≡ n → named_plan n b.entries p ≡ unsent plan → ArePackets h.clusters plan.sent p.sent
+pub with_name : (h : Site) (b : Broker) (plan : Plan) (p : PlanView) (n : List ℕ) → name_in b.subs p ≡ n → named_plan n b.entries p ≡ unsent plan → ArePackets h.clusters plan.sent p.sent
     → NamedFits h.per_ledger n b p → PlanStorable h plan → IsPrepared h b plan p
 with_name h b plan p n is steps sent fits stored = record {
   steps = subst (λ (m : List ℕ). named_plan m b.entries p ≡ unsent plan) (sym is) steps;
@@ -42,11 +42,11 @@ with_name h b plan p n is steps sent fits stored = record {
 }
 
 -- a call whose plan is the machine's
-pub same_plan : {E : Type 0} (h : Site) (b : Broker) (x y : Plan) (p : PlanBook) (r : Result (Unit {0}) E) → x ≡ y → OnOk r (IsPrepared h b x p) → OnOk r (IsPrepared h b y p)
+pub same_plan : {E : Type 0} (h : Site) (b : Broker) (x y : Plan) (p : PlanView) (r : Result (Unit {0}) E) → x ≡ y → OnOk r (IsPrepared h b x p) → OnOk r (IsPrepared h b y p)
 same_plan h b x y p r same is = subst (λ (z : Plan). OnOk r (IsPrepared h b z p)) same is
 
--- what was prepared behind a call that made room is prepared for the state before it, which is the same
-pub at_old : (new_h h : Site) (new_b b : Broker) (plan : Broker → Plan) (p : PlanBook) → new_h ≡ h → new_b ≡ b → IsPrepared new_h new_b (plan new_b) p → IsPrepared h b (plan b) p
+-- what was prepared after a call that made room is prepared for the state before it, which is the same
+pub at_old : (new_h h : Site) (new_b b : Broker) (plan : Broker → Plan) (p : PlanView) → new_h ≡ h → new_b ≡ b → IsPrepared new_h new_b (plan new_b) p → IsPrepared h b (plan b) p
 at_old new_h h new_b b plan p site broker is = subst (λ (g : Site). IsPrepared g b (plan b) p) site (subst (λ (x : Broker). IsPrepared new_h x (plan x) p) broker is)
 
 -- a request is refused with a code, or else done
@@ -59,7 +59,7 @@ chosen true y u v p q = refl
 chosen false true u v p q = refl
 chosen false false u v p q = refl
 
-pub idle : (h : Site) (b : Broker) (p : PlanBook) → p ≡ idle_book → IsPrepared h b idle_plan p
+pub idle : (h : Site) (b : Broker) (p : PlanView) → p ≡ idle_view → IsPrepared h b idle_plan p
 idle h b p is =
     rw is (record {
       steps = refl;
@@ -68,7 +68,7 @@ idle h b p is =
       stored = record { writes = tt; changes = tt };
     })
 
-pub nothing : (h : Site) (b : Broker) (k : ℕ) (p : PlanBook) → p ≡ quiet_book k → IsPrepared h b (quiet_plan []) p
+pub nothing : (h : Site) (b : Broker) (k : ℕ) (p : PlanView) → p ≡ quiet_view k → IsPrepared h b (quiet_plan []) p
 nothing h b k p is =
     rw is (record {
       steps = refl;
@@ -77,8 +77,8 @@ nothing h b k p is =
       stored = record { writes = tt; changes = tt };
     })
 
-pub client_changes : (h : Site) (b : Broker) (c : ℕ) (o : Option Session) (p : PlanBook) → c < length b.sessions
-    → p ≡ record (quiet_book 0) { changes = book_change.Client c o ∷ [] } → IsPrepared h b (plan_of [] (change.Client c o ∷ []) []) p
+pub client_changes : (h : Site) (b : Broker) (c : ℕ) (o : Option Session) (p : PlanView) → c < length b.sessions
+    → p ≡ record (quiet_view 0) { changes = state_change.Client c o ∷ [] } → IsPrepared h b (plan_of [] (change.Client c o ∷ []) []) p
 client_changes h b c o p within is =
     rw is (record {
       steps = refl;
@@ -87,8 +87,8 @@ client_changes h b c o p within is =
       stored = record { writes = tt; changes = tt };
     })
 
-pub session_changes : (h : Site) (b : Broker) (c : ℕ) (o : Option Session) (p : PlanBook) → c < length b.sessions
-    → p ≡ record (quiet_book 0) { changes = book_change.Detach c ∷ book_change.Client c o ∷ [] } → IsPrepared h b (quiet_plan (session_becomes c o)) p
+pub session_changes : (h : Site) (b : Broker) (c : ℕ) (o : Option Session) (p : PlanView) → c < length b.sessions
+    → p ≡ record (quiet_view 0) { changes = state_change.Detach c ∷ state_change.Client c o ∷ [] } → IsPrepared h b (quiet_plan (session_becomes c o)) p
 session_changes h b c o p within is =
     rw is (record {
       steps = refl;
@@ -97,7 +97,7 @@ session_changes h b c o p within is =
       stored = record { writes = tt; changes = tt };
     })
 
-pub detaches : (h : Site) (b : Broker) (c : ℕ) (p : PlanBook) → p ≡ record (quiet_book 0) { changes = book_change.Detach c ∷ [] } → IsPrepared h b (plan_of [] (change.Detach c ∷ []) []) p
+pub detaches : (h : Site) (b : Broker) (c : ℕ) (p : PlanView) → p ≡ record (quiet_view 0) { changes = state_change.Detach c ∷ [] } → IsPrepared h b (plan_of [] (change.Detach c ∷ []) []) p
 detaches h b c p is =
     rw is (record {
       steps = refl;
@@ -107,36 +107,36 @@ detaches h b c p is =
     })
 
 -- an event that changes one thing
-pub change_alone : (k : ℕ) (x : BookChange) (q p : PlanBook) → q ≡ quiet_book k → p ≡ record q { changes = q.changes ++ x ∷ [] } → p ≡ record (quiet_book k) { changes = x ∷ [] }
+pub change_alone : (k : ℕ) (x : StateChange) (q p : PlanView) → q ≡ quiet_view k → p ≡ record q { changes = q.changes ++ x ∷ [] } → p ≡ record (quiet_view k) { changes = x ∷ [] }
 change_alone k x q p begun is = is ∙ rw begun refl
 
-pub permits : (h : Site) (b : Broker) (k c n : ℕ) (p : PlanBook) → k < length b.subs
-    → p ≡ record (quiet_book k) { changes = book_change.Sub (sub_change.Permit c n) ∷ [] } → IsPrepared h b (quiet_plan (change.Permit (sub_at b.subs k).name c n ∷ [])) p
+pub permits : (h : Site) (b : Broker) (k c n : ℕ) (p : PlanView) → k < length b.subs
+    → p ≡ record (quiet_view k) { changes = state_change.Sub (sub_change.Permit c n) ∷ [] } → IsPrepared h b (quiet_plan (change.Permit (sub_at b.subs k).name c n ∷ [])) p
 permits h b k c n p within is =
     rw is
-    (with_name h b (quiet_plan (change.Permit (sub_at b.subs k).name c n ∷ [])) (record (quiet_book k) { changes = book_change.Sub (sub_change.Permit c n) ∷ [] }) (sub_at b.subs k).name (rw (there b.subs k within) refl) refl tt
+    (with_name h b (quiet_plan (change.Permit (sub_at b.subs k).name c n ∷ [])) (record (quiet_view k) { changes = state_change.Sub (sub_change.Permit c n) ∷ [] }) (sub_at b.subs k).name (rw (there b.subs k within) refl) refl tt
     (record { writes_named = tt; changes_named = (name_there b.subs k within, tt); writes = tt; changes = (tt, tt) })
     (record { writes = tt; changes = tt }))
 
-pub deletes : (h : Site) (b : Broker) (k : ℕ) (p : PlanBook) → k < length b.subs
-    → p ≡ record (quiet_book k) { writes = book_write.Delete ∷ [] } → IsPrepared h b (plan_of (write.Delete (sub_at b.subs k).name ∷ []) [] []) p
+pub deletes : (h : Site) (b : Broker) (k : ℕ) (p : PlanView) → k < length b.subs
+    → p ≡ record (quiet_view k) { writes = state_write.Delete ∷ [] } → IsPrepared h b (plan_of (write.Delete (sub_at b.subs k).name ∷ []) [] []) p
 deletes h b k p within is =
     rw is
-    (with_name h b (plan_of (write.Delete (sub_at b.subs k).name ∷ []) [] []) (record (quiet_book k) { writes = book_write.Delete ∷ [] }) (sub_at b.subs k).name (rw (there b.subs k within) refl) refl tt
+    (with_name h b (plan_of (write.Delete (sub_at b.subs k).name ∷ []) [] []) (record (quiet_view k) { writes = state_write.Delete ∷ [] }) (sub_at b.subs k).name (rw (there b.subs k within) refl) refl tt
     (record { writes_named = (name_there b.subs k within, tt); changes_named = tt; writes = (tt, tt); changes = tt })
     (record { writes = tt; changes = tt }))
 
--- ---- an answer behind all that an event does
+-- ---- an answer after all that an event does
 
 -- in the session that is open in the state before it, which is the same as the state that the code looks at
-pub answers_more : (h : Site) (b now : Broker) (c : ℕ) (f : Frame) (ws : List Write) (cs : List Change) (p q : PlanBook) → now ≡ b → IsPrepared h b (plan_of ws cs []) p
+pub answers_more : (h : Site) (b now : Broker) (c : ℕ) (f : Frame) (ws : List Write) (cs : List Change) (p q : PlanView) → now ≡ b → IsPrepared h b (plan_of ws cs []) p
     → AlsoSends h.clusters (record { to = peer.Client c; session = (open_at now c).number; frame = f }) p q → IsPrepared h b (plan_of ws cs (answer c (open_at b c) f)) q
 answers_more h b now c f ws cs p q same is sends =
     sends_more h b ws cs (record { to = peer.Client c; session = (open_at b c).number; frame = f }) p q is
     (subst (λ (x : Broker). AlsoSends h.clusters (record { to = peer.Client c; session = (open_at x c).number; frame = f }) p q) same sends)
 
 -- the session that CONNECT opens has no producer
-pub connects_more : (h : Site) (b : Broker) (c number : ℕ) (ps : List AttachedProducer) (p q : PlanBook) → ps ≡ [] → IsPrepared h b (quiet_plan (session_becomes c (Some (record { number = number; producers = ps })))) p
+pub connects_more : (h : Site) (b : Broker) (c number : ℕ) (ps : List AttachedProducer) (p q : PlanView) → ps ≡ [] → IsPrepared h b (quiet_plan (session_becomes c (Some (record { number = number; producers = ps })))) p
     → AlsoSends h.clusters (record { to = peer.Client c; session = number; frame = frame.Connected }) p q → IsPrepared h b (connects c number) q
 connects_more h b c number ps p q none is sends =
     sends_more h b [] (session_becomes c (Some (connected number))) (record { to = peer.Client c; session = number; frame = frame.Connected }) p q
@@ -144,29 +144,29 @@ connects_more h b c number ps p q none is sends =
 
 -- ---- none of them needs room
 
-pub idle_room : (room : Room) (p : PlanBook) → p ≡ idle_book → HasRoom room p
+pub idle_room : (room : Room) (p : PlanView) → p ≡ idle_view → HasRoom room p
 idle_room room p is =
-    rw is (record { writes = record { entries = omega arith; streams = omega arith; places = omega arith; acks = tt; senders = omega arith }; given = omega arith; senders = omega arith })
+    rw is (record { writes = record { entries = omega arith; streams = omega arith; places = omega arith; acks = tt; replicators = omega arith }; given = omega arith; replicators = omega arith })
 
-pub change_room_none : (room : Room) (c : ℕ) (o : Option Session) (p : PlanBook) → p ≡ record (quiet_book 0) { changes = book_change.Client c o ∷ [] } → HasRoom room p
+pub change_room_none : (room : Room) (c : ℕ) (o : Option Session) (p : PlanView) → p ≡ record (quiet_view 0) { changes = state_change.Client c o ∷ [] } → HasRoom room p
 change_room_none room c o p is =
-    rw is (record { writes = record { entries = omega arith; streams = omega arith; places = omega arith; acks = tt; senders = omega arith }; given = omega arith; senders = omega arith })
+    rw is (record { writes = record { entries = omega arith; streams = omega arith; places = omega arith; acks = tt; replicators = omega arith }; given = omega arith; replicators = omega arith })
 
-pub session_room : (room : Room) (c : ℕ) (o : Option Session) (p : PlanBook) → p ≡ record (quiet_book 0) { changes = book_change.Detach c ∷ book_change.Client c o ∷ [] } → HasRoom room p
+pub session_room : (room : Room) (c : ℕ) (o : Option Session) (p : PlanView) → p ≡ record (quiet_view 0) { changes = state_change.Detach c ∷ state_change.Client c o ∷ [] } → HasRoom room p
 session_room room c o p is =
-    rw is (record { writes = record { entries = omega arith; streams = omega arith; places = omega arith; acks = tt; senders = omega arith }; given = omega arith; senders = omega arith })
+    rw is (record { writes = record { entries = omega arith; streams = omega arith; places = omega arith; acks = tt; replicators = omega arith }; given = omega arith; replicators = omega arith })
 
-pub detach_room : (room : Room) (c : ℕ) (p : PlanBook) → p ≡ record (quiet_book 0) { changes = book_change.Detach c ∷ [] } → HasRoom room p
+pub detach_room : (room : Room) (c : ℕ) (p : PlanView) → p ≡ record (quiet_view 0) { changes = state_change.Detach c ∷ [] } → HasRoom room p
 detach_room room c p is =
-    rw is (record { writes = record { entries = omega arith; streams = omega arith; places = omega arith; acks = tt; senders = omega arith }; given = omega arith; senders = omega arith })
+    rw is (record { writes = record { entries = omega arith; streams = omega arith; places = omega arith; acks = tt; replicators = omega arith }; given = omega arith; replicators = omega arith })
 
-pub permit_room : (room : Room) (k c n : ℕ) (p : PlanBook) → p ≡ record (quiet_book k) { changes = book_change.Sub (sub_change.Permit c n) ∷ [] } → HasRoom room p
+pub permit_room : (room : Room) (k c n : ℕ) (p : PlanView) → p ≡ record (quiet_view k) { changes = state_change.Sub (sub_change.Permit c n) ∷ [] } → HasRoom room p
 permit_room room k c n p is =
-    rw is (record { writes = record { entries = omega arith; streams = omega arith; places = omega arith; acks = tt; senders = omega arith }; given = omega arith; senders = omega arith })
+    rw is (record { writes = record { entries = omega arith; streams = omega arith; places = omega arith; acks = tt; replicators = omega arith }; given = omega arith; replicators = omega arith })
 
-pub delete_room : (room : Room) (k : ℕ) (p : PlanBook) → p ≡ record (quiet_book k) { writes = book_write.Delete ∷ [] } → HasRoom room p
+pub delete_room : (room : Room) (k : ℕ) (p : PlanView) → p ≡ record (quiet_view k) { writes = state_write.Delete ∷ [] } → HasRoom room p
 delete_room room k p is =
-    rw is (record { writes = record { entries = omega arith; streams = omega arith; places = omega arith; acks = (tt, tt); senders = omega arith }; given = omega arith; senders = omega arith })
+    rw is (record { writes = record { entries = omega arith; streams = omega arith; places = omega arith; acks = (tt, tt); replicators = omega arith }; given = omega arith; replicators = omega arith })
 
 -- ---- UNSUBSCRIBE of a subscription of one consumer, or of more
 

@@ -5,27 +5,27 @@ use Rattle.std.proofs.lemmas.List.{length-set}
 use Rattle.geo_base.specs.declared.change.Change.TheVariants as change
 use Rattle.geo_base.specs.Broker.{Broker, Site}
 use Rattle.geo_base.specs.Plan.{quiet_plan}
-use Rattle.broker_state.specs.Plan.{PlanBook, quiet_book}
+use Rattle.broker_state.specs.Plan.{PlanView, quiet_view}
 use Rattle.broker_state.specs.Room.{HasRoom, Room}
-use Rattle.broker_state.specs.declared.change.BookChange.{BookChange}
-use Rattle.broker_state.specs.declared.change.BookChange.TheVariants as book_change
+use Rattle.broker_state.specs.declared.change.StateChange.{StateChange}
+use Rattle.broker_state.specs.declared.change.StateChange.TheVariants as state_change
 use Rattle.broker_plans.specs.Prepared.{IsPrepared}
 
 -- ---- the session of a link changes, once and two times in a row
 
-pub change_alone : (x : BookChange) (q p : PlanBook) → q ≡ quiet_book 0 → p ≡ record q { changes = q.changes ++ x ∷ [] } → p ≡ record (quiet_book 0) { changes = x ∷ [] }
+pub change_alone : (x : StateChange) (q p : PlanView) → q ≡ quiet_view 0 → p ≡ record q { changes = q.changes ++ x ∷ [] } → p ≡ record (quiet_view 0) { changes = x ∷ [] }
 change_alone x q p begun is = is ∙ rw begun refl
 
-pub change_again : (x : BookChange) (p r : PlanBook) → p ≡ record (quiet_book 0) { changes = x ∷ [] } → r ≡ record p { changes = p.changes ++ x ∷ [] } → r ≡ record (quiet_book 0) { changes = x ∷ x ∷ [] }
+pub change_again : (x : StateChange) (p r : PlanView) → p ≡ record (quiet_view 0) { changes = x ∷ [] } → r ≡ record p { changes = p.changes ++ x ∷ [] } → r ≡ record (quiet_view 0) { changes = x ∷ x ∷ [] }
 change_again x p r once is = is ∙ rw once refl
 
-pub becomes : (h : Site) (b : Broker) (x : ℕ) (session : Option ℕ) (p : PlanBook) → x < length b.receivers → p ≡ record (quiet_book 0) { changes = book_change.Receiver x session ∷ [] }
+pub becomes : (h : Site) (b : Broker) (x : ℕ) (session : Option ℕ) (p : PlanView) → x < length b.receivers → p ≡ record (quiet_view 0) { changes = state_change.Receiver x session ∷ [] }
     → IsPrepared h b (quiet_plan (change.Receiver x session ∷ [])) p
 becomes h b x session p within is =
     rw is (record { steps = refl; sent = tt; fits = record { writes_named = tt; changes_named = (tt, tt); writes = tt; changes = (within, tt) }; stored = record { writes = tt; changes = tt } })
 
-pub becomes_twice : (h : Site) (b : Broker) (x : ℕ) (session : Option ℕ) (p : PlanBook) → x < length b.receivers
-    → p ≡ record (quiet_book 0) { changes = book_change.Receiver x session ∷ book_change.Receiver x session ∷ [] }
+pub becomes_twice : (h : Site) (b : Broker) (x : ℕ) (session : Option ℕ) (p : PlanView) → x < length b.receivers
+    → p ≡ record (quiet_view 0) { changes = state_change.Receiver x session ∷ state_change.Receiver x session ∷ [] }
     → IsPrepared h b (quiet_plan (change.Receiver x session ∷ change.Receiver x session ∷ [])) p
 becomes_twice h b x session p within is =
     rw is (record {
@@ -35,11 +35,11 @@ becomes_twice h b x session p within is =
       stored = record { writes = tt; changes = tt };
     })
 
-pub becomes_room : (room : Room) (x : ℕ) (session : Option ℕ) (p : PlanBook) → p ≡ record (quiet_book 0) { changes = book_change.Receiver x session ∷ [] } → HasRoom room p
+pub becomes_room : (room : Room) (x : ℕ) (session : Option ℕ) (p : PlanView) → p ≡ record (quiet_view 0) { changes = state_change.Receiver x session ∷ [] } → HasRoom room p
 becomes_room room x session p is =
-    rw is (record { writes = record { entries = omega arith; streams = omega arith; places = omega arith; acks = tt; senders = omega arith }; given = omega arith; senders = omega arith })
+    rw is (record { writes = record { entries = omega arith; streams = omega arith; places = omega arith; acks = tt; replicators = omega arith }; given = omega arith; replicators = omega arith })
 
-pub becomes_twice_room : (room : Room) (x : ℕ) (session : Option ℕ) (p : PlanBook)
-    → p ≡ record (quiet_book 0) { changes = book_change.Receiver x session ∷ book_change.Receiver x session ∷ [] } → HasRoom room p
+pub becomes_twice_room : (room : Room) (x : ℕ) (session : Option ℕ) (p : PlanView)
+    → p ≡ record (quiet_view 0) { changes = state_change.Receiver x session ∷ state_change.Receiver x session ∷ [] } → HasRoom room p
 becomes_twice_room room x session p is =
-    rw is (record { writes = record { entries = omega arith; streams = omega arith; places = omega arith; acks = tt; senders = omega arith }; given = omega arith; senders = omega arith })
+    rw is (record { writes = record { entries = omega arith; streams = omega arith; places = omega arith; acks = tt; replicators = omega arith }; given = omega arith; replicators = omega arith })

@@ -1,7 +1,6 @@
 -- A packet of a forward link does what its act says, once and two times in a row.
 use Rattle.std.proofs.Common.{◌≡◌, ℕ, zero, suc, ◌==◌, nat_lt, Bool, true, false, List, [], ◌∷◌, refl, ap, sym, ◌∙◌, arith}
 use Rattle.std.specs.Prelude.{nat_le, not, ◌++◌, ◌&&◌, ◌||◌, if◌then◌else◌, Option, Some, None, slice_set, slice_index_or}
-use Rattle.std.specs.Str.{bytes_eq}
 use Rattle.std.proofs.lemmas.Bool.Decides.{nat_tests}
 use Rattle.geo_base.specs.declared.entry.Entry.{Entry}
 use Rattle.geo_base.specs.declared.entry.Ident.{Ident}
@@ -13,7 +12,7 @@ use Rattle.geo_base.specs.Broker.{Broker, Site, receiver_at}
 use Rattle.geo_base.specs.Entry.{same_stream}
 use Rattle.geo_base.specs.Forwarding.{take_command, take_frame}
 use Rattle.geo_base.specs.Plan.{Plan, done, plan_of, quiet_plan, twice}
-use Rattle.geo_base.specs.Position.{nowhere}
+use Rattle.geo_base.specs.Position.{no_position}
 use Rattle.geo_base.specs.Receiver.{is_from, is_open}
 use Rattle.geo_base.specs.Sizes.{entry_size, most_entry_size}
 use Rattle.geo_base.specs.Topic.{accepts, next_position}
@@ -26,6 +25,8 @@ use Rattle.broker_packets.specs.Acts.{act_of, acted, closing_plan, command_act, 
 use Rattle.broker_packets.proofs.Again.{twice_is}
 use Rattle.broker_packets.specs.declared.act.TakeAct.{TakeAct}
 use Rattle.broker_packets.specs.declared.act.TakeAct.TheVariants as act
+use Rattle.geo_base.proofs.Bools.{and_no_second}
+use Rattle.geo_base.proofs.Lists.{bytes_eq_itself}
 
 -- ---- once
 
@@ -90,23 +91,14 @@ taken_once h b x p =
 
 -- ---- two times in a row
 
--- a topic has its own entries: the second time one is a duplicate
-bytes_same : (t : List ℕ) → bytes_eq t t ≡ true
-bytes_same [] = refl
-bytes_same (c ∷ cs) = let same : (c == c) ≡ true = grind (arith, nat_tests) in rw same (bytes_same cs)
-
 same_as_itself : (i : Ident) → same_stream i i ≡ true
-same_as_itself i = let same : (i.origin == i.origin) ≡ true = grind (arith, nat_tests) in rw (same, bytes_same i.producer) refl
-
-never_both : (t u : Bool) → u ≡ false → (t && u) ≡ false
-never_both true u h = h
-never_both false u h = refl
+same_as_itself i = let same : (i.origin == i.origin) ≡ true = grind (arith, nat_tests) in rw (same, bytes_eq_itself i.producer) refl
 
 pub stored_once : (es : List Entry) (e : Entry) → accepts (es ++ e ∷ []) e.ident ≡ false
 stored_once [] e =
     let least : nat_lt e.ident.seq e.ident.seq ≡ false = grind (arith, nat_tests) in
     rw (same_as_itself e.ident, least) refl
-stored_once (a ∷ es) e = never_both (not (same_stream a.ident e.ident) || nat_lt a.ident.seq e.ident.seq) (accepts (es ++ e ∷ []) e.ident) (stored_once es e)
+stored_once (a ∷ es) e = and_no_second (not (same_stream a.ident e.ident) || nat_lt a.ident.seq e.ident.seq) (accepts (es ++ e ∷ []) e.ident) (stored_once es e)
 
 -- no session is open once it closed
 none_open : (rs : List (Option ℕ)) (x : ℕ) → slice_index_or (slice_set rs x None) x None ≡ None
@@ -149,7 +141,7 @@ is_command h x frame.Unreadable = tt
 -- an entry that came, stored or not
 abbrev received : Site → Broker → ℕ → ℕ → Bool → ℕ → Entry → Bool → Plan
 received h b x session again seq e new =
-    plan_of (if new then write.Append e ∷ [] else []) [] (receipts x session seq again (Some (if new then next_position h.per_ledger b.ledgers else nowhere)))
+    plan_of (if new then write.Append e ∷ [] else []) [] (receipts x session seq again (Some (if new then next_position h.per_ledger b.ledgers else no_position)))
 
 receives_twice : (h : Site) (b : Broker) (x session seq : ℕ) (e : Entry) (P : Broker → Plan)
     → ((now : Broker) → now.receivers ≡ b.receivers → P now ≡ receiving_plan h now x session false seq e)

@@ -1,11 +1,11 @@
 -- A SEND of the usual form is published as the machine's SEND is.
-use Rattle.std.proofs.Common.{◌≡◌, ℕ, ◌≤◌, ◌==◌, Bool, true, false, List, [], refl, sym, ◌∙◌, ap, subst}
+use Rattle.std.proofs.Common.{◌≡◌, ℕ, ◌≤◌, ◌==◌, true, List, [], refl, sym, ◌∙◌, ap, subst}
 use Rattle.std.specs.Prelude.{◌&&◌, is_none, Option, Some, None}
 use Rattle.std.specs.Option.{option_copied, option_map}
 use Rattle.std.specs.Str.{bytes_eq}
 use Rattle.std.proofs.lemmas.Bool.{eqb-true, le-leb}
 use Rattle.geo_base.specs.declared.frame.Frame.TheVariants as frame
-use Rattle.geo_base.specs.declared.marker.Place.{Place}
+use Rattle.geo_base.specs.declared.marker.ClusterRef.{ClusterRef}
 use Rattle.geo_base.specs.declared.packet.Peer.TheVariants as peer
 use Rattle.geo_base.specs.declared.position.Position.{Position}
 use Rattle.geo_base.specs.declared.session.Session.{Session}
@@ -25,34 +25,27 @@ use Rattle.broker_plans.specs.Prepared.{AlsoSends, IsPrepared}
 use Rattle.broker_plans.specs.Usual.{send_viewed}
 use Rattle.frame_values.specs.Usual.{entry_viewed, source_viewed}
 use Rattle.broker_plans.proofs.Keeping.{sends_more}
-use Rattle.broker_state.specs.Plan.{PlanBook}
+use Rattle.broker_state.specs.Plan.{PlanView}
 use Rattle.broker_packets.specs.Serving.{is_in, open_at, session_or}
 use Rattle.broker_packets.specs.UsualPublishes.{Publishes}
 use Rattle.broker_packets.proofs.Sessions.{served_in}
+use Rattle.geo_base.proofs.Bools.{and_first, and_second}
 
-first_of : (x y : Bool) → (x && y) ≡ true → x ≡ true
-first_of true y h = refl
-first_of false y h = absurd cc
-
-last_of : (x y : Bool) → (x && y) ≡ true → y ≡ true
-last_of true y h = h
-last_of false y h = absurd cc
-
-none_named : {X Y : Type 0} (o : Option X) (f : Option X → Option Y) (g : Y → Place) → is_none o ≡ true → f None ≡ None → is_none (option_map g (f o)) ≡ true
+none_named : {X Y : Type 0} (o : Option X) (f : Option X → Option Y) (g : Y → ClusterRef) → is_none o ≡ true → f None ≡ None → is_none (option_map g (f o)) ≡ true
 none_named {Y = Y} None f g h none = ap (λ (q : Option Y). is_none (option_map g q)) none
 none_named (Some x) f g h none = absurd cc
 
-sound_parts : (h : Site) (n : List ℕ) (seq : ℕ) (o : Option Place) (m : Came) → bytes_eq n m.message.meta.producer.now ≡ true → (seq == m.message.meta.seq) ≡ true → is_none o ≡ true
+sound_parts : (h : Site) (n : List ℕ) (seq : ℕ) (o : Option ClusterRef) (m : Came) → bytes_eq n m.message.meta.producer.now ≡ true → (seq == m.message.meta.seq) ≡ true → is_none o ≡ true
     → entry_size h.clusters (entry_viewed 0 m.message) ≤ most_entry_size → is_sound h n seq o (entry_viewed 0 m.message) ≡ true
 sound_parts h n seq o m name number none small = rw (name, number, none, le-leb (entry_size h.clusters (entry_viewed 0 m.message)) most_entry_size small) refl
 
 pub sound : (h : Site) (m : Came) (n : List ℕ) → (bytes_eq n m.message.meta.producer.now && (m.seq == m.message.meta.seq) && is_none m.message.meta.replicated_from) ≡ true
     → ((names : List (List ℕ)) (x : ℕ) → entry_size names (entry_viewed x m.message) ≤ most_entry_size) → is_sound h n m.seq (source_viewed h.clusters m.message) (entry_viewed 0 m.message) ≡ true
 sound h m n agree small =
-    let both = first_of (bytes_eq n m.message.meta.producer.now && (m.seq == m.message.meta.seq)) (is_none m.message.meta.replicated_from) agree in
+    let both = and_first (bytes_eq n m.message.meta.producer.now && (m.seq == m.message.meta.seq)) (is_none m.message.meta.replicated_from) agree in
     sound_parts h n m.seq (source_viewed h.clusters m.message) m
-    (first_of (bytes_eq n m.message.meta.producer.now) (m.seq == m.message.meta.seq) both) (last_of (bytes_eq n m.message.meta.producer.now) (m.seq == m.message.meta.seq) both)
-    (none_named m.message.meta.replicated_from option_copied (place_of h.clusters) (last_of (bytes_eq n m.message.meta.producer.now && (m.seq == m.message.meta.seq)) (is_none m.message.meta.replicated_from) agree) refl)
+    (and_first (bytes_eq n m.message.meta.producer.now) (m.seq == m.message.meta.seq) both) (and_second (bytes_eq n m.message.meta.producer.now) (m.seq == m.message.meta.seq) both)
+    (none_named m.message.meta.replicated_from option_copied (place_of h.clusters) (and_second (bytes_eq n m.message.meta.producer.now && (m.seq == m.message.meta.seq)) (is_none m.message.meta.replicated_from) agree) refl)
     (small h.clusters 0)
 
 -- ---- the plan
@@ -68,14 +61,14 @@ published_plan h b c stamp m is =
     served_in h b c m.session (send_viewed h.clusters m) is.open_now
     ∙ sound_sent h b c (open_at b c) m.id m.seq (source_viewed h.clusters m.message) (entry_viewed 0 m.message) (name_with m.id (open_at b c).producers) is.sound
 
-pub published_more : (h now : Site) (b : Broker) (c stamp own : ℕ) (m : Came) (at : Position) (p q : PlanBook) → now ≡ h → own ≡ h.own → Publishes h b c m
+pub published_more : (h now : Site) (b : Broker) (c stamp own : ℕ) (m : Came) (at : Position) (p q : PlanView) → now ≡ h → own ≡ h.own → Publishes h b c m
     → IsPrepared h b (plan_of (storing b (entry_viewed own m.message)) [] []) p → Some at ≡ receipt_position h.per_ledger b (entry_viewed own m.message)
     → AlsoSends now.clusters (record { to = peer.Client c; session = m.session; frame = frame.SendReceipt m.id m.seq (Some at) }) p q
     → IsPrepared h b (serve h b c (Some (record { session = m.session; stamp = stamp; frame = send_viewed h.clusters m }))) q
-published_more h now b c stamp own m at p q same is_own is stored place more =
+published_more h now b c stamp own m at p q same is_own is stored sub_index more =
     subst (λ (plan : Plan). IsPrepared h b plan q) (sym (published_plan h b c stamp m is))
     (subst (λ (x : ℕ). IsPrepared h b (stores h b c (open_at b c) m.id m.seq (entry_viewed x m.message)) q) is_own
-    (subst (λ (o : Option Position). IsPrepared h b (plan_of (storing b (entry_viewed own m.message)) [] (answer c (open_at b c) (frame.SendReceipt m.id m.seq o))) q) place
+    (subst (λ (o : Option Position). IsPrepared h b (plan_of (storing b (entry_viewed own m.message)) [] (answer c (open_at b c) (frame.SendReceipt m.id m.seq o))) q) sub_index
     (sends_more h b (storing b (entry_viewed own m.message)) [] (record { to = peer.Client c; session = (open_at b c).number; frame = frame.SendReceipt m.id m.seq (Some at) }) p q stored
     (subst (λ (n : ℕ). AlsoSends h.clusters (record { to = peer.Client c; session = n; frame = frame.SendReceipt m.id m.seq (Some at) }) p q) (sym (number_of m.session (session_at b c) is.open_now))
     (subst (λ (g : Site). AlsoSends g.clusters (record { to = peer.Client c; session = m.session; frame = frame.SendReceipt m.id m.seq (Some at) }) p q) same more)))))

@@ -15,7 +15,7 @@ use Rattle.geo_base.specs.Sizes.{entry_size, most_entry_size}
 use Rattle.geo_base.specs.Storing.{receipt_position, storing}
 use Rattle.replicator.specs.declared.receiver.Taken.TheVariants as takes
 use Rattle.replicator.specs.Taking.{taken}
-use Rattle.broker_state.specs.Plan.{PlanBook}
+use Rattle.broker_state.specs.Plan.{PlanView}
 use Rattle.broker_plans.specs.declared.usual.Came.{Came}
 use Rattle.broker_plans.specs.Prepared.{AlsoSends, IsPrepared}
 use Rattle.broker_plans.specs.Usual.{send_viewed}
@@ -39,12 +39,12 @@ pub received : (h : Site) (b : Broker) (x stamp : ℕ) (m : Came) → Receives h
 unfolding take_packet
 received h b x stamp m is = rw (is.open_now, is.brings.from, le-leb (entry_size h.clusters (entry_viewed 0 m.message)) most_entry_size is.brings.small) refl
 
-pub received_more : (h now : Site) (b : Broker) (x stamp : ℕ) (m : Came) (at : Position) (p q : PlanBook) → now ≡ h → Receives h b x m → IsPrepared h b (plan_of (storing b (entry_viewed x m.message)) [] []) p
+pub received_more : (h now : Site) (b : Broker) (x stamp : ℕ) (m : Came) (at : Position) (p q : PlanView) → now ≡ h → Receives h b x m → IsPrepared h b (plan_of (storing b (entry_viewed x m.message)) [] []) p
     → Some at ≡ receipt_position h.per_ledger b (entry_viewed x m.message)
     → AlsoSends now.clusters (record { to = peer.Back x; session = m.session; frame = frame.SendReceipt m.session m.seq (Some at) }) p q
     → IsPrepared h b (take_packet h b x fate.Good (Some (record { session = m.session; stamp = stamp; frame = send_viewed h.clusters m }))) q
-received_more h now b x stamp m at p q same is stored place more =
+received_more h now b x stamp m at p q same is stored sub_index more =
     subst (λ (plan : Plan). IsPrepared h b plan q) (sym (received h b x stamp m is))
-    (subst (λ (o : Option Position). IsPrepared h b (stored_first h b x m o) q) place
+    (subst (λ (o : Option Position). IsPrepared h b (stored_first h b x m o) q) sub_index
     (sends_more h b (storing b (entry_viewed x m.message)) [] (record { to = peer.Back x; session = m.session; frame = frame.SendReceipt m.session m.seq (Some at) }) p q stored
     (subst (λ (g : Site). AlsoSends g.clusters (record { to = peer.Back x; session = m.session; frame = frame.SendReceipt m.session m.seq (Some at) }) p q) same more)))

@@ -4,7 +4,7 @@ use Rattle.geo_base.specs.declared.change.Change.TheVariants as change
 use Rattle.geo_base.specs.declared.entry.Entry.{Entry}
 use Rattle.geo_base.specs.declared.frame.Frame.{Frame}
 use Rattle.geo_base.specs.declared.frame.Frame.TheVariants as frame
-use Rattle.geo_base.specs.declared.marker.Place.{Place}
+use Rattle.geo_base.specs.declared.marker.ClusterRef.{ClusterRef}
 use Rattle.geo_base.specs.declared.packet.Out.{Out}
 use Rattle.geo_base.specs.declared.packet.Packet.{Packet}
 use Rattle.geo_base.specs.declared.packet.Peer.TheVariants as peer
@@ -13,7 +13,7 @@ use Rattle.geo_base.specs.Broker.{Broker, Site, receiver_at}
 use Rattle.geo_base.specs.Entry.{with_origin}
 use Rattle.geo_base.specs.Forwarding.{link_producer}
 use Rattle.geo_base.specs.Plan.{Plan, plan_of, quiet_plan}
-use Rattle.geo_base.specs.Position.{nowhere}
+use Rattle.geo_base.specs.Position.{no_position}
 use Rattle.geo_base.specs.Receiver.{is_from}
 use Rattle.geo_base.specs.Sizes.{entry_size, most_entry_size}
 use Rattle.geo_base.specs.Storing.{receipt_position, storing}
@@ -26,7 +26,7 @@ use Rattle.broker_packets.specs.declared.act.TakeAct.{TakeAct}
 use Rattle.broker_packets.specs.declared.act.TakeAct.TheVariants as act
 
 -- in the session that is open, only a SEND of an entry that the other cluster stored first can be acted on, and only a small one
-abbrev pub send_act : Site → ℕ → ℕ → Option Place → Entry → TakeAct
+abbrev pub send_act : Site → ℕ → ℕ → Option ClusterRef → Entry → TakeAct
 send_act h x seq source e = if is_from x source && nat_le (entry_size h.clusters e) most_entry_size then act.Receives seq (with_origin x e) else act.Refuses
 
 abbrev pub command_act : Site → ℕ → Frame → TakeAct
@@ -60,7 +60,7 @@ receipt_out x session seq position = record { to = peer.Back x; session = sessio
 
 -- the second time an entry is a duplicate, whose receipt names no position
 abbrev pub receipts : ℕ → ℕ → ℕ → Bool → Option Position → List Out
-receipts x session seq again position = receipt_out x session seq position ∷ (if again then receipt_out x session seq (Some nowhere) ∷ [] else [])
+receipts x session seq again position = receipt_out x session seq position ∷ (if again then receipt_out x session seq (Some no_position) ∷ [] else [])
 
 abbrev pub closing_plan : ℕ → Bool → Plan
 closing_plan x again = quiet_plan (times again (change.Receiver x None))

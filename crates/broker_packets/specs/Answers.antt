@@ -9,8 +9,8 @@ use Rattle.geo_base.specs.declared.packet.WireOut.{WireOut}
 use Rattle.geo_base.specs.declared.position.Position.{Position}
 use Rattle.geo_base.specs.Broker.{Site}
 use Rattle.geo_base.specs.Forwarding.{link_producer}
-use Rattle.geo_base.specs.Position.{nowhere}
-use Rattle.broker_state.specs.Plan.{PlanBook}
+use Rattle.geo_base.specs.Position.{no_position}
+use Rattle.broker_state.specs.Plan.{PlanView}
 use Rattle.broker_plans.specs.Prepared.{ArePackets}
 use Rattle.frame_values.specs.Coded.{carries_entry}
 use Rattle.frame_values.specs.Fitting.{IsSmall}
@@ -40,8 +40,8 @@ opening h session = frame.Producer h.topic session session (Some (link_producer 
 abbrev pub opening_out : Site → ℕ → ℕ → Out
 opening_out h y session = record { to = peer.Forward y; session = session; frame = opening h session }
 
--- an event that sends more packets behind all that it does
-pub record AlsoAnswers (names : List (List ℕ)) (os : List Out) (old new : PlanBook) : Type 0 where
+-- an event that sends more packets after all that it does
+pub record AlsoAnswers (names : List (List ℕ)) (os : List Out) (old new : PlanView) : Type 0 where
   pub packets : List WireOut
   pub with : new ≡ record old { sent = old.sent ++ packets }
   pub written : ArePackets names os packets
@@ -59,4 +59,4 @@ abbrev pub receipt : ℕ → ℕ → Position → Frame
 receipt session seq position = frame.SendReceipt session seq (Some position)
 
 abbrev pub receipt_answer : ℕ → ℕ → Bool → ℕ → Position → Answer
-receipt_answer x session again seq position = record { source = x; session = session; first = receipt session seq position; second = second_of again (receipt session seq nowhere) }
+receipt_answer x session again seq position = record { source = x; session = session; first = receipt session seq position; second = second_of again (receipt session seq no_position) }

@@ -3,7 +3,7 @@ use Rattle.std.specs.Prelude.{ℕ, ◌==◌, Bool, false, not, ◌&&◌, if◌th
 use Rattle.std.specs.List.{list_any}
 use Rattle.std.specs.Str.{bytes_eq}
 use Rattle.geo_base.specs.declared.entry.Entry.{Entry}
-use Rattle.geo_base.specs.declared.marker.Place.{Place}
+use Rattle.geo_base.specs.declared.marker.ClusterRef.{ClusterRef}
 use Rattle.geo_base.specs.declared.session.AttachedProducer.{AttachedProducer}
 use Rattle.geo_base.specs.Answers.{producer_busy, unknown_error}
 use Rattle.geo_base.specs.Broker.{Broker, Site}
@@ -21,6 +21,6 @@ refusal h b c topic n =
     else None
 
 -- the message is sound for the producer of this name, if there is one
-abbrev pub published : Site → Option (List ℕ) → ℕ → Option Place → Entry → Bool
+abbrev pub published : Site → Option (List ℕ) → ℕ → Option ClusterRef → Entry → Bool
 published h None seq source e = false
 published h (Some n) seq source e = is_sound h n seq source e

@@ -11,10 +11,10 @@ use Rattle.geo_base.specs.Name.{is_name}
 use Rattle.geo_base.specs.Plan.{Plan, plan_of}
 use Rattle.geo_base.specs.Subscribing.{has_room, same_kind}
 use Rattle.geo_base.specs.Subscription.{Subscription, is_attached}
-use Rattle.broker_state.specs.declared.change.BookChange.{BookChange}
-use Rattle.broker_state.specs.declared.change.BookChange.TheVariants as book_change
-use Rattle.broker_state.specs.declared.write.BookWrite.{BookWrite}
-use Rattle.broker_state.specs.declared.write.BookWrite.TheVariants as book_write
+use Rattle.broker_state.specs.declared.change.StateChange.{StateChange}
+use Rattle.broker_state.specs.declared.change.StateChange.TheVariants as state_change
+use Rattle.broker_state.specs.declared.write.StateWrite.{StateWrite}
+use Rattle.broker_state.specs.declared.write.StateWrite.TheVariants as state_write
 use Rattle.broker_subs.specs.declared.changing.SubChange.TheVariants as sub_change
 use Rattle.broker_subs.specs.declared.writing.SubWrite.{SubWrite}
 use Rattle.broker_subs.specs.declared.writing.SubWrite.TheVariants as sub_write
@@ -31,14 +31,14 @@ abbrev pub altered : Subscription → SubKind → Bool → Option SubWrite
 altered s kind replicated =
     if same_kind kind s.kind && (s.replicated || not replicated) then None else Some (sub_write.Alter kind (s.replicated || replicated))
 
-abbrev pub alter_writes : Option SubWrite → List BookWrite
+abbrev pub alter_writes : Option SubWrite → List StateWrite
 alter_writes None = []
-alter_writes (Some w) = book_write.Sub w ∷ []
+alter_writes (Some w) = state_write.Sub w ∷ []
 
 -- the consumer comes last in order, without permits
-abbrev pub attach : ℕ → ℕ → BookChange
-attach c id = book_change.Sub (sub_change.Attach (record { client = c; id = id; permits = 0 }))
+abbrev pub attach : ℕ → ℕ → StateChange
+attach c id = state_change.Sub (sub_change.Attach (record { client = c; id = id; permits = 0 }))
 
--- a consumer of client c joins the subscription of name n behind these writes, and is not answered yet
+-- a consumer of client c joins the subscription of name n after these writes, and is not answered yet
 abbrev pub joining : ℕ → List ℕ → ℕ → List Write → Plan
 joining c n id ws = plan_of ws (change.Attach n (record { client = c; id = id; permits = 0 }) ∷ []) []

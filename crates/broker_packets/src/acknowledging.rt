@@ -16,8 +16,8 @@ ghost use Rattle.broker_plans.specs.Prepared.{CanWrite, IsPrepared};
 ghost use Rattle.broker_packets.specs.Acknowledging.{WritesAcks};
 
 use crate::answering::ignore;
-use broker_plans::{begin_write, place_consumed, sub_at, update_after};
-use broker_state::{BookChange, BrokerState, Plan};
+use broker_plans::{begin_write, sub_at, sub_index_consumed, update_after};
+use broker_state::{BrokerState, Plan, StateChange};
 use broker_subs::{SubChange, SubWrite};
 use geo_base::{AckKind, Memory, Position, Sequence};
 use std::alloc::Global;
@@ -34,27 +34,27 @@ pub(crate) struct Acked {
 #[tactic(auto, using(crate::proofs::Acks::consumed, crate::proofs::Acks::no_acks, crate::proofs::Acks::some_acks))]
 pub(crate) fn serve_ack(
     alloc: Global,
-    book: &mut BrokerState,
+    state: &mut BrokerState,
     client: u32,
     acked: &Acked,
     plan: &mut Plan,
 ) -> Result<(), Memory>
-    requires can { CanWrite book.old.site book.old.broker }
+    requires can { CanWrite state.old.site state.old.broker }
     requires empty { IsEmptyPlan plan.old }
-    ensures prepared { OnOk result (IsPrepared book.old.site book.old.broker (serve_ack book.old.site book.old.broker acked.now.kind acked.now.positions (consumed_by book.old.broker.subs client acked.now.id)) plan.new) }
-    ensures room { OnOk result (HasRoom book.new.room plan.new) }
-    ensures kept { SameState book.old book.new }
+    ensures prepared { OnOk result (IsPrepared state.old.site state.old.broker (serve_ack state.old.site state.old.broker acked.now.kind acked.now.positions (consumed_by state.old.broker.subs client acked.now.id)) plan.new) }
+    ensures room { OnOk result (HasRoom state.new.room plan.new) }
+    ensures kept { SameState state.old state.new }
 {
-    let Some(place) = place_consumed(book, client, acked.id) else {
-        ignore(book, plan);
+    let Some(sub_index) = sub_index_consumed(state, client, acked.id) else {
+        ignore(state, plan);
         return Ok(());
     };
-    match acks(alloc, book, client, place, acked)? {
+    match acks(alloc, state, client, sub_index, acked)? {
         None => {
-            ignore(book, plan);
+            ignore(state, plan);
             Ok(())
         }
-        Some(write) => acknowledge(alloc, book, place, write, plan),
+        Some(write) => acknowledge(alloc, state, sub_index, write, plan),
     }
 }
 
@@ -62,39 +62,45 @@ pub(crate) fn serve_ack(
 /// then on.
 fn acknowledge(
     alloc: Global,
-    book: &mut BrokerState,
-    place: usize,
+    state: &mut BrokerState,
+    sub_index: usize,
     write: SubWrite,
     plan: &mut Plan,
 ) -> Result<(), Memory>
-    requires can { CanWrite book.old.site book.old.broker }
-    requires place { place < length book.old.broker.subs }
-    requires fits { SubWriteFits book.old.broker.entries (sub_at book.old.broker.subs place) write }
+    requires can { CanWrite state.old.site state.old.broker }
+    requires sub_index { sub_index < length state.old.broker.subs }
+    requires fits { SubWriteFits state.old.broker.entries (sub_at state.old.broker.subs sub_index) write }
     requires empty { IsEmptyPlan plan.old }
-    ensures prepared { OnOk result (IsPrepared book.old.site book.old.broker (plan_of (cursor_write book.old.site book.old.broker (sub_at book.old.broker.subs place) (machine_sub_write (sub_at book.old.broker.subs place).name book.old.broker.entries write)) (change.Acked (sub_at book.old.broker.subs place).name ∷ []) []) plan.new) }
-    ensures room { OnOk result (HasRoom book.new.room plan.new) }
-    ensures kept { SameState book.old book.new }
+    ensures prepared { OnOk result (IsPrepared state.old.site state.old.broker (plan_of (cursor_write state.old.site state.old.broker (sub_at state.old.broker.subs sub_index) (machine_sub_write (sub_at state.old.broker.subs sub_index).name state.old.broker.entries write)) (change.Acked (sub_at state.old.broker.subs sub_index).name ∷ []) []) plan.new) }
+    ensures room { OnOk result (HasRoom state.new.room plan.new) }
+    ensures kept { SameState state.old state.new }
 {
-    let _site = book.site();
-    let update = update_after(alloc, book, place, &write, sub_at(book, place).cache())?;
-    begin_write(book, place, 0, write, update, plan)?;
-    plan.change(BookChange::Sub(SubChange::Acked))?;
+    let _site = state.site();
+    let update = update_after(
+        alloc,
+        state,
+        sub_index,
+        &write,
+        sub_at(state, sub_index).cache(),
+    )?;
+    begin_write(state, sub_index, 0, write, update, plan)?;
+    plan.change(StateChange::Sub(SubChange::Acked))?;
     Ok(())
 }
 
 /// The write that an ACK asks of the subscription at a place, where it names what is stored and the kind allows it.
 fn acks(
     alloc: Global,
-    book: &BrokerState,
+    state: &BrokerState,
     client: u32,
-    place: usize,
+    sub_index: usize,
     acked: &Acked,
 ) -> Result<Option<SubWrite>, Memory>
-    requires place { place < length book.now.broker.subs }
-    requires consumed { has_consumer client acked.now.id (sub_at book.now.broker.subs place) ≡ true }
-    ensures { IfOk result (WritesAcks book.now.broker.entries (sub_at book.now.broker.subs place) (acked_indexes book.now.broker.ledgers (sub_at book.now.broker.subs place).kind acked.now.positions acked.now.kind)) }
+    requires sub_index { sub_index < length state.now.broker.subs }
+    requires consumed { has_consumer client acked.now.id (sub_at state.now.broker.subs sub_index) ≡ true }
+    ensures { IfOk result (WritesAcks state.now.broker.entries (sub_at state.now.broker.subs sub_index) (acked_indexes state.now.broker.ledgers (sub_at state.now.broker.subs sub_index).kind acked.now.positions acked.now.kind)) }
 {
-    if sub_at(book, place)
+    if sub_at(state, sub_index)
         .on_ack(client, acked.id, acked.kind)
         .is_err()
     {
@@ -102,8 +108,8 @@ fn acks(
     }
     let positions = acked.positions.as_slice();
     match acked.kind {
-        AckKind::Individual => acks_each(alloc, book, place, positions),
-        AckKind::Cumulative => Ok(acks_to(book, place, positions)),
+        AckKind::Individual => acks_each(alloc, state, sub_index, positions),
+        AckKind::Cumulative => Ok(acks_to(state, sub_index, positions)),
     }
 }
 
@@ -111,22 +117,22 @@ fn acks(
 #[tactic(auto, using(crate::proofs::Acks::writes_some))]
 fn acks_each(
     alloc: Global,
-    book: &BrokerState,
-    place: usize,
+    state: &BrokerState,
+    sub_index: usize,
     positions: &[Position],
 ) -> Result<Option<SubWrite>, Memory>
-    requires { place < length book.now.broker.subs }
-    ensures { IfOk result (WritesAcks book.now.broker.entries (sub_at book.now.broker.subs place) (stored_indexes book.now.broker.ledgers positions.now)) }
+    requires { sub_index < length state.now.broker.subs }
+    ensures { IfOk result (WritesAcks state.now.broker.entries (sub_at state.now.broker.subs sub_index) (stored_indexes state.now.broker.ledgers positions.now)) }
 {
-    let indexes = stored_indexes(alloc, book, positions)?;
-    Ok(some_acks(book, place, indexes))
+    let indexes = stored_indexes(alloc, state, positions)?;
+    Ok(some_acks(state, sub_index, indexes))
 }
 
 /// Some indexes, if there are any.
 #[tactic(auto, using(crate::proofs::Acks::writes_none, crate::proofs::Acks::each_of))]
-fn some_acks(book: &BrokerState, place: usize, indexes: Sequence<u64>) -> Option<SubWrite>
-    requires { All (λ i. i < length book.now.broker.entries) indexes }
-    ensures { WritesAcks book.now.broker.entries (sub_at book.now.broker.subs place) indexes result }
+fn some_acks(state: &BrokerState, sub_index: usize, indexes: Sequence<u64>) -> Option<SubWrite>
+    requires { All (λ i. i < length state.now.broker.entries) indexes }
+    ensures { WritesAcks state.now.broker.entries (sub_at state.now.broker.subs sub_index) indexes result }
 {
     if indexes.len() == 0 {
         return None;
@@ -135,17 +141,17 @@ fn some_acks(book: &BrokerState, place: usize, indexes: Sequence<u64>) -> Option
 }
 
 /// All up to a position, if it is the only one and is stored.
-fn acks_to(book: &BrokerState, place: usize, positions: &[Position]) -> Option<SubWrite>
-    ensures { WritesAcks book.now.broker.entries (sub_at book.now.broker.subs place) (cumulative_indexes book.now.broker.ledgers positions.now) result }
+fn acks_to(state: &BrokerState, sub_index: usize, positions: &[Position]) -> Option<SubWrite>
+    ensures { WritesAcks state.now.broker.entries (sub_at state.now.broker.subs sub_index) (cumulative_indexes state.now.broker.ledgers positions.now) result }
 {
-    up_to(book, place, only_index(book, positions))
+    up_to(state, sub_index, only_index(state, positions))
 }
 
 /// All up to an index, if there is one.
 #[tactic(auto, using(crate::proofs::Acks::writes_none, crate::proofs::Acks::writes_to))]
-fn up_to(book: &BrokerState, place: usize, index: Option<u64>) -> Option<SubWrite>
-    requires { IfSome index (λ i. i < length book.now.broker.entries) }
-    ensures { WritesAcks book.now.broker.entries (sub_at book.now.broker.subs place) (up_to index) result }
+fn up_to(state: &BrokerState, sub_index: usize, index: Option<u64>) -> Option<SubWrite>
+    requires { IfSome index (λ i. i < length state.now.broker.entries) }
+    ensures { WritesAcks state.now.broker.entries (sub_at state.now.broker.subs sub_index) (up_to index) result }
 {
     match index {
         None => None,
@@ -154,39 +160,39 @@ fn up_to(book: &BrokerState, place: usize, index: Option<u64>) -> Option<SubWrit
 }
 
 /// The index of the one position, if there is only one and it is stored.
-fn only_index(book: &BrokerState, positions: &[Position]) -> Option<u64>
-    ensures only { cumulative_indexes book.now.broker.ledgers positions.now ≡ up_to result }
-    ensures within { IfSome result (λ i. i < length book.now.broker.entries) }
+fn only_index(state: &BrokerState, positions: &[Position]) -> Option<u64>
+    ensures only { cumulative_indexes state.now.broker.ledgers positions.now ≡ up_to result }
+    ensures within { IfSome result (λ i. i < length state.now.broker.entries) }
 {
     let [position] = positions else {
         return None;
     };
-    book.index_of(*position)
+    state.index_of(*position)
 }
 
 /// The indexes of the positions that are stored.
 fn stored_indexes(
     alloc: Global,
-    book: &BrokerState,
+    state: &BrokerState,
     positions: &[Position],
 ) -> Result<Sequence<u64>, Memory>
-    ensures indexes { IfOk result (λ is. is ≡ stored_indexes book.now.broker.ledgers positions.now) }
-    ensures within { IfOk result (λ is. All (λ i. i < length book.now.broker.entries) is) }
+    ensures indexes { IfOk result (λ is. is ≡ stored_indexes state.now.broker.ledgers positions.now) }
+    ensures within { IfOk result (λ is. All (λ i. i < length state.now.broker.entries) is) }
 {
     let mut indexes = Sequence::new(alloc);
     for position in positions {
-        add(&mut indexes, book.index_of(*position), book)?;
+        add(&mut indexes, state.index_of(*position), state)?;
     }
     Ok(indexes)
 }
 
 /// One more index, if there is one.
 #[tactic(auto, using(crate::proofs::Acks::all_with))]
-fn add(indexes: &mut Sequence<u64>, index: Option<u64>, book: &BrokerState) -> Result<(), Memory>
-    requires old { All (λ i. i < length book.now.broker.entries) indexes.old }
-    requires one { IfSome index (λ i. i < length book.now.broker.entries) }
+fn add(indexes: &mut Sequence<u64>, index: Option<u64>, state: &BrokerState) -> Result<(), Memory>
+    requires old { All (λ i. i < length state.now.broker.entries) indexes.old }
+    requires one { IfSome index (λ i. i < length state.now.broker.entries) }
     ensures indexes { OnOk result (indexes.new ≡ indexes.old ++ with_stored index []) }
-    ensures within { OnOk result (All (λ i. i < length book.now.broker.entries) indexes.new) }
+    ensures within { OnOk result (All (λ i. i < length state.now.broker.entries) indexes.new) }
 {
     match index {
         None => Ok(()),

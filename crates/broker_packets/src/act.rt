@@ -10,7 +10,7 @@ ghost use Rattle.broker_packets.specs.declared.act.TakeAct.TheVariants as act;
 
 use broker_state::BrokerState;
 use frame_values::is_within_limit;
-use geo_base::{Entry, Frame, Place};
+use geo_base::{ClusterRef, Entry, Frame};
 use replicator::Taken;
 
 /// What a packet of a forward link does.
@@ -29,29 +29,29 @@ pub(crate) enum TakeAct {
 }
 
 /// What a frame of a session does.
-pub(crate) fn act_of(book: &BrokerState, source: u32, session: u64, frame: Frame) -> TakeAct
-    requires source { source < length book.now.broker.receivers }
+pub(crate) fn act_of(state: &BrokerState, source: u32, session: u64, frame: Frame) -> TakeAct
+    requires source { source < length state.now.broker.receivers }
     requires read { IsReadFrame frame }
-    ensures act { result ≡ act_of book.now.site (receiver_at book.now.broker source) source session frame }
-    ensures storable { ActStorable book.now.site result }
+    ensures act { result ≡ act_of state.now.site (receiver_at state.now.broker source) source session frame }
+    ensures storable { ActStorable state.now.site result }
 {
     match frame {
         Frame::Unreadable => TakeAct::Unreadable,
-        frame => taken_act(book, source, session, frame),
+        frame => taken_act(state, source, session, frame),
     }
 }
 
 /// What a frame that can be read does, by what the receiver makes of its session.
-fn taken_act(book: &BrokerState, source: u32, session: u64, frame: Frame) -> TakeAct
-    requires source { source < length book.now.broker.receivers }
+fn taken_act(state: &BrokerState, source: u32, session: u64, frame: Frame) -> TakeAct
+    requires source { source < length state.now.broker.receivers }
     requires read { IsReadFrame frame }
-    ensures act { result ≡ taken_act book.now.site source frame (taken (receiver_at book.now.broker source) session (is_to_open book.now.site session frame)) }
-    ensures storable { ActStorable book.now.site result }
+    ensures act { result ≡ taken_act state.now.site source frame (taken (receiver_at state.now.broker source) session (is_to_open state.now.site session frame)) }
+    ensures storable { ActStorable state.now.site result }
 {
-    let opening = is_to_open(book, session, &frame);
-    match book.receiver(source).next_packet(session, opening) {
-        Taken::Opened => opening_act(book, frame),
-        Taken::Process => command_act(book, source, frame),
+    let opening = is_to_open(state, session, &frame);
+    match state.receiver(source).next_packet(session, opening) {
+        Taken::Opened => opening_act(state, frame),
+        Taken::Process => command_act(state, source, frame),
         Taken::Discard => {
             drop(frame);
             TakeAct::Discards
@@ -60,21 +60,21 @@ fn taken_act(book: &BrokerState, source: u32, session: u64, frame: Frame) -> Tak
 }
 
 /// Whether a frame is to open its session: a PRODUCER of the topic, whose producer id is the session's number.
-fn is_to_open(book: &BrokerState, session: u64, frame: &Frame) -> bool
-    ensures { result ≡ is_to_open book.now.site session frame.now }
+fn is_to_open(state: &BrokerState, session: u64, frame: &Frame) -> bool
+    ensures { result ≡ is_to_open state.now.site session frame.now }
 {
     match frame {
         Frame::Producer { topic, id, .. } => {
-            topic.as_bytes() == book.site().topic().as_str().as_bytes() && *id == session
+            topic.as_bytes() == state.site().topic().as_str().as_bytes() && *id == session
         }
         _ => false,
     }
 }
 
 /// A PRODUCER opens its session, and is answered.
-fn opening_act(book: &BrokerState, frame: Frame) -> TakeAct
+fn opening_act(state: &BrokerState, frame: Frame) -> TakeAct
     ensures act { result ≡ opening_act frame }
-    ensures storable { ActStorable book.now.site result }
+    ensures storable { ActStorable state.now.site result }
 {
     match frame {
         Frame::Producer {
@@ -91,10 +91,10 @@ fn opening_act(book: &BrokerState, frame: Frame) -> TakeAct
 }
 
 /// Only a SEND is acted on in the session that is open.
-fn command_act(book: &BrokerState, source: u32, frame: Frame) -> TakeAct
+fn command_act(state: &BrokerState, source: u32, frame: Frame) -> TakeAct
     requires { IsReadFrame frame }
-    ensures act { result ≡ command_act book.now.site source frame }
-    ensures storable { ActStorable book.now.site result }
+    ensures act { result ≡ command_act state.now.site source frame }
+    ensures storable { ActStorable state.now.site result }
 {
     match frame {
         Frame::Send {
@@ -102,7 +102,7 @@ fn command_act(book: &BrokerState, source: u32, frame: Frame) -> TakeAct
             seq,
             source: from,
             entry,
-        } => send_act(book, source, seq, &from, entry),
+        } => send_act(state, source, seq, &from, entry),
         other => {
             drop(other);
             TakeAct::Refuses
@@ -112,17 +112,17 @@ fn command_act(book: &BrokerState, source: u32, frame: Frame) -> TakeAct
 
 /// A SEND in the session that is open.
 fn send_act(
-    book: &BrokerState,
+    state: &BrokerState,
     source: u32,
     seq: u64,
-    from: &Option<Place>,
+    from: &Option<ClusterRef>,
     entry: Entry,
 ) -> TakeAct
     requires { IsReadEntry entry }
-    ensures act { result ≡ send_act book.now.site source seq from.now entry }
-    ensures storable { ActStorable book.now.site result }
+    ensures act { result ≡ send_act state.now.site source seq from.now entry }
+    ensures storable { ActStorable state.now.site result }
 {
-    if is_from(source, from) && is_within_limit(book.site().clusters(), &entry) {
+    if is_from(source, from) && is_within_limit(state.site().clusters(), &entry) {
         let mut entry = entry;
         entry.ident.origin = source;
         return TakeAct::Receives { seq, entry };
@@ -132,11 +132,11 @@ fn send_act(
 }
 
 /// Whether a SEND says that a cluster stored its entry first.
-fn is_from(cluster: u32, source: &Option<Place>) -> bool
+fn is_from(cluster: u32, source: &Option<ClusterRef>) -> bool
     ensures { result ≡ is_from cluster source.now }
 {
     match source {
-        Some(Place::Known(named)) => *named == cluster,
+        Some(ClusterRef::Known(named)) => *named == cluster,
         _ => false,
     }
 }

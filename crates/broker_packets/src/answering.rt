@@ -30,41 +30,41 @@ pub(crate) const CONSUMER_NOT_FOUND: u64 = 13;
 pub(crate) const PRODUCER_BUSY: u64 = 16;
 
 /// The session that a client has open.
-pub(crate) fn open_session(book: &BrokerState, client: u32) -> &Session
-    requires { IsOpen book.now.broker client }
-    ensures { result.now ≡ open_at book.now.broker client }
+pub(crate) fn open_session(state: &BrokerState, client: u32) -> &Session
+    requires { IsOpen state.now.broker client }
+    ensures { result.now ≡ open_at state.now.broker client }
 {
-    match book.session(client) {
+    match state.session(client) {
         Some(session) => session,
         None => unreachable!(),
     }
 }
 
 /// The producers of the session that a client has open.
-pub(crate) fn open_producers(book: &BrokerState, client: u32) -> &[AttachedProducer]
-    requires { IsOpen book.now.broker client }
-    ensures { result.now ≡ (open_at book.now.broker client).producers }
+pub(crate) fn open_producers(state: &BrokerState, client: u32) -> &[AttachedProducer]
+    requires { IsOpen state.now.broker client }
+    ensures { result.now ≡ (open_at state.now.broker client).producers }
 {
-    open_session(book, client).producers.as_slice()
+    open_session(state, client).producers.as_slice()
 }
 
-/// Also answers a client, in its open session, behind all that the event does.
+/// Also answers a client, in its open session, after all that the event does.
 pub(crate) fn also_answer(
     alloc: Global,
-    book: &BrokerState,
+    state: &BrokerState,
     client: u32,
     plan: &mut Plan,
     frame: Frame,
 ) -> Result<(), Memory>
-    requires open { IsOpen book.now.broker client }
+    requires open { IsOpen state.now.broker client }
     requires simple { carries_entry frame ≡ false }
     requires readable { is_readable frame ≡ true }
-    requires small { IsSmall book.now.site.clusters frame }
-    ensures { OnOk result (AlsoSends book.now.site.clusters (record { to = peer.Client client; session = (open_at book.now.broker client).number; frame = frame }) plan.old plan.new) }
+    requires small { IsSmall state.now.site.clusters frame }
+    ensures { OnOk result (AlsoSends state.now.site.clusters (record { to = peer.Client client; session = (open_at state.now.broker client).number; frame = frame }) plan.old plan.new) }
 {
-    let session = open_session(book, client).number;
+    let session = open_session(state, client).number;
     let to = Peer::Client(client);
-    let sent = also_send(alloc, book, plan, to, session, &frame);
+    let sent = also_send(alloc, state, plan, to, session, &frame);
     drop(frame);
     sent
 }
@@ -73,47 +73,47 @@ pub(crate) fn also_answer(
 #[tactic(auto, using(crate::proofs::Shapes::nothing, broker_plans::proofs::Keeping::sends_more, broker_plans::proofs::Keeping::room_more, broker_plans::proofs::Keeping::no_room))]
 pub(crate) fn answer(
     alloc: Global,
-    book: &BrokerState,
+    state: &BrokerState,
     client: u32,
     frame: Frame,
     plan: &mut Plan,
 ) -> Result<(), Memory>
-    requires open { IsOpen book.now.broker client }
+    requires open { IsOpen state.now.broker client }
     requires simple { carries_entry frame ≡ false }
     requires readable { is_readable frame ≡ true }
-    requires small { IsSmall book.now.site.clusters frame }
+    requires small { IsSmall state.now.site.clusters frame }
     requires empty { IsEmptyPlan plan.old }
-    ensures prepared { OnOk result (IsPrepared book.now.site book.now.broker (answers client (open_at book.now.broker client) frame) plan.new) }
+    ensures prepared { OnOk result (IsPrepared state.now.site state.now.broker (answers client (open_at state.now.broker client) frame) plan.new) }
     ensures room { (room : Room) → OnOk result (HasRoom room plan.new) }
 {
     plan.begin(0);
-    also_answer(alloc, book, client, plan, frame)?;
+    also_answer(alloc, state, client, plan, frame)?;
     Ok(())
 }
 
 /// Refuses a request.
 pub(crate) fn refuse(
     alloc: Global,
-    book: &BrokerState,
+    state: &BrokerState,
     client: u32,
     request: u64,
     code: u64,
     plan: &mut Plan,
 ) -> Result<(), Memory>
-    requires open { IsOpen book.now.broker client }
+    requires open { IsOpen state.now.broker client }
     requires empty { IsEmptyPlan plan.old }
-    ensures prepared { OnOk result (IsPrepared book.now.site book.now.broker (refuses client (open_at book.now.broker client) request code) plan.new) }
+    ensures prepared { OnOk result (IsPrepared state.now.site state.now.broker (refuses client (open_at state.now.broker client) request code) plan.new) }
     ensures room { (room : Room) → OnOk result (HasRoom room plan.new) }
 {
     let frame = Frame::Error { request, code };
-    answer(alloc, book, client, frame, plan)
+    answer(alloc, state, client, frame, plan)
 }
 
 /// An event that is enabled, and does nothing.
 #[tactic(auto, using(crate::proofs::Shapes::nothing, broker_plans::proofs::Keeping::no_room))]
-pub(crate) fn ignore(book: &BrokerState, plan: &mut Plan)
+pub(crate) fn ignore(state: &BrokerState, plan: &mut Plan)
     requires { IsEmptyPlan plan.old }
-    ensures prepared { IsPrepared book.now.site book.now.broker (quiet_plan []) plan.new }
+    ensures prepared { IsPrepared state.now.site state.now.broker (quiet_plan []) plan.new }
     ensures room { (room : Room) → HasRoom room plan.new }
 {
     plan.begin(0);

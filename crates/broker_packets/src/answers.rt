@@ -1,9 +1,9 @@
 //! What the back link answers to a packet of the forward link.
 ghost use Rattle.std.specs.Prelude.{◌≡◌, IfOk, IfSome, OnOk};
-ghost use Rattle.geo_base.specs.Position.{nowhere};
+ghost use Rattle.geo_base.specs.Position.{no_position};
 ghost use Rattle.broker_packets.specs.Answers.{AlsoAnswers, IsBrief, outs_of, receipt, receipt_answer, second_of, success, success_answer};
 
-use broker_plans::{NOWHERE, also_send};
+use broker_plans::{NO_POSITION, also_send};
 use broker_state::{BrokerState, Plan};
 use geo_base::{Frame, Memory, Peer, Position};
 use std::alloc::Global;
@@ -25,23 +25,23 @@ struct Answer {
     second: Option<Frame>,
 }
 
-/// An event that sends, behind all that it does, an answer.
+/// An event that sends, after all that it does, an answer.
 fn also_answer(
     alloc: Global,
-    book: &BrokerState,
+    state: &BrokerState,
     plan: &mut Plan,
     answer: &Answer,
 ) -> Result<(), Memory>
-    requires first { IsBrief book.now.site.clusters answer.now.first }
-    requires second { IfSome answer.now.second (IsBrief book.now.site.clusters) }
-    ensures { OnOk result (AlsoAnswers book.now.site.clusters (outs_of answer.now) plan.old plan.new) }
+    requires first { IsBrief state.now.site.clusters answer.now.first }
+    requires second { IfSome answer.now.second (IsBrief state.now.site.clusters) }
+    ensures { OnOk result (AlsoAnswers state.now.site.clusters (outs_of answer.now) plan.old plan.new) }
 {
     let to = Peer::Back(answer.source);
-    also_send(alloc, book, plan, to, answer.session, &answer.first)?;
+    also_send(alloc, state, plan, to, answer.session, &answer.first)?;
     match &answer.second {
         None => Ok(()),
         Some(second) => {
-            also_send(alloc, book, plan, to, answer.session, second)?;
+            also_send(alloc, state, plan, to, answer.session, second)?;
             Ok(())
         }
     }
@@ -50,16 +50,16 @@ fn also_answer(
 /// An event that also answers the packet that opened the session of a number.
 pub(crate) fn also_succeed(
     alloc: Global,
-    book: &BrokerState,
+    state: &BrokerState,
     plan: &mut Plan,
     arrival: Arrival,
     id: u64,
     request: u64,
 ) -> Result<(), Memory>
-    ensures { OnOk result (AlsoAnswers book.now.site.clusters (outs_of (success_answer book.now.site arrival.source arrival.again id request)) plan.old plan.new) }
+    ensures { OnOk result (AlsoAnswers state.now.site.clusters (outs_of (success_answer state.now.site arrival.source arrival.again id request)) plan.old plan.new) }
 {
-    let answer = success_answer(alloc, book, arrival, id, request)?;
-    let answered = also_answer(alloc, book, plan, &answer);
+    let answer = success_answer(alloc, state, arrival, id, request)?;
+    let answered = also_answer(alloc, state, plan, &answer);
     let_go(answer);
     answered
 }
@@ -67,16 +67,16 @@ pub(crate) fn also_succeed(
 /// An event that also answers an entry. The second time it is a duplicate, whose receipt names no position.
 pub(crate) fn also_receipt(
     alloc: Global,
-    book: &BrokerState,
+    state: &BrokerState,
     plan: &mut Plan,
     arrival: Arrival,
     seq: u64,
     position: Position,
 ) -> Result<(), Memory>
-    ensures { OnOk result (AlsoAnswers book.now.site.clusters (outs_of (receipt_answer arrival.source arrival.session arrival.again seq position)) plan.old plan.new) }
+    ensures { OnOk result (AlsoAnswers state.now.site.clusters (outs_of (receipt_answer arrival.source arrival.session arrival.again seq position)) plan.old plan.new) }
 {
-    let answer = receipt_answer(book, arrival, seq, position);
-    let answered = also_answer(alloc, book, plan, &answer);
+    let answer = receipt_answer(state, arrival, seq, position);
+    let answered = also_answer(alloc, state, plan, &answer);
     let_go(answer);
     answered
 }
@@ -90,18 +90,18 @@ fn let_go(answer: Answer) {
 
 fn success_answer(
     alloc: Global,
-    book: &BrokerState,
+    state: &BrokerState,
     arrival: Arrival,
     id: u64,
     request: u64,
 ) -> Result<Answer, Memory>
-    ensures answer { IfOk result (λ a. a ≡ success_answer book.now.site arrival.source arrival.again id request) }
-    ensures first { IfOk result (λ a. IsBrief book.now.site.clusters a.first) }
-    ensures second { IfOk result (λ a. IfSome a.second (IsBrief book.now.site.clusters)) }
+    ensures answer { IfOk result (λ a. a ≡ success_answer state.now.site arrival.source arrival.again id request) }
+    ensures first { IfOk result (λ a. IsBrief state.now.site.clusters a.first) }
+    ensures second { IfOk result (λ a. IfSome a.second (IsBrief state.now.site.clusters)) }
 {
     let Arrival { source, again, .. } = arrival;
-    let first = success(alloc, book, source, request)?;
-    match second_success(alloc, book, source, request, again) {
+    let first = success(alloc, state, source, request)?;
+    match second_success(alloc, state, source, request, again) {
         Ok(second) => Ok(Answer {
             source,
             session: id,
@@ -116,36 +116,36 @@ fn success_answer(
 }
 
 /// The frame that says that a session is open.
-fn success(alloc: Global, book: &BrokerState, source: u32, request: u64) -> Result<Frame, Memory>
-    ensures frame { IfOk result (λ f. f ≡ success book.now.site source request) }
-    ensures brief { IfOk result (IsBrief book.now.site.clusters) }
+fn success(alloc: Global, state: &BrokerState, source: u32, request: u64) -> Result<Frame, Memory>
+    ensures frame { IfOk result (λ f. f ≡ success state.now.site source request) }
+    ensures brief { IfOk result (IsBrief state.now.site.clusters) }
 {
-    let site = book.site();
+    let site = state.site();
     let name = site.link_producer(alloc, source)?;
     Ok(Frame::ProducerSuccess { request, name })
 }
 
 fn second_success(
     alloc: Global,
-    book: &BrokerState,
+    state: &BrokerState,
     source: u32,
     request: u64,
     again: bool,
 ) -> Result<Option<Frame>, Memory>
-    ensures frame { IfOk result (λ o. o ≡ second_of again (success book.now.site source request)) }
-    ensures brief { IfOk result (λ o. IfSome o (IsBrief book.now.site.clusters)) }
+    ensures frame { IfOk result (λ o. o ≡ second_of again (success state.now.site source request)) }
+    ensures brief { IfOk result (λ o. IfSome o (IsBrief state.now.site.clusters)) }
 {
     if !again {
         return Ok(None);
     }
-    let second = success(alloc, book, source, request)?;
+    let second = success(alloc, state, source, request)?;
     Ok(Some(second))
 }
 
-fn receipt_answer(book: &BrokerState, arrival: Arrival, seq: u64, position: Position) -> Answer
+fn receipt_answer(state: &BrokerState, arrival: Arrival, seq: u64, position: Position) -> Answer
     ensures answer { result ≡ receipt_answer arrival.source arrival.session arrival.again seq position }
-    ensures first { IsBrief book.now.site.clusters result.first }
-    ensures second { IfSome result.second (IsBrief book.now.site.clusters) }
+    ensures first { IsBrief state.now.site.clusters result.first }
+    ensures second { IfSome result.second (IsBrief state.now.site.clusters) }
 {
     let Arrival {
         source,
@@ -155,15 +155,15 @@ fn receipt_answer(book: &BrokerState, arrival: Arrival, seq: u64, position: Posi
     Answer {
         source,
         session,
-        first: receipt(book, session, seq, position),
-        second: second_receipt(book, session, seq, again),
+        first: receipt(state, session, seq, position),
+        second: second_receipt(state, session, seq, again),
     }
 }
 
 #[tactic(auto, using(crate::proofs::Small::receipt_brief))]
-fn receipt(book: &BrokerState, session: u64, seq: u64, position: Position) -> Frame
+fn receipt(state: &BrokerState, session: u64, seq: u64, position: Position) -> Frame
     ensures frame { result ≡ receipt session seq position }
-    ensures brief { IsBrief book.now.site.clusters result }
+    ensures brief { IsBrief state.now.site.clusters result }
 {
     Frame::SendReceipt {
         id: session,
@@ -172,12 +172,12 @@ fn receipt(book: &BrokerState, session: u64, seq: u64, position: Position) -> Fr
     }
 }
 
-fn second_receipt(book: &BrokerState, session: u64, seq: u64, again: bool) -> Option<Frame>
-    ensures frame { result ≡ second_of again (receipt session seq nowhere) }
-    ensures brief { IfSome result (IsBrief book.now.site.clusters) }
+fn second_receipt(state: &BrokerState, session: u64, seq: u64, again: bool) -> Option<Frame>
+    ensures frame { result ≡ second_of again (receipt session seq no_position) }
+    ensures brief { IfSome result (IsBrief state.now.site.clusters) }
 {
     if !again {
         return None;
     }
-    Some(receipt(book, session, seq, NOWHERE))
+    Some(receipt(state, session, seq, NO_POSITION))
 }

@@ -12,153 +12,153 @@ ghost use Rattle.broker_plans.specs.Prepared.{IsPrepared};
 ghost use Rattle.broker_packets.specs.Serving.{IsOpen, open_at};
 
 use crate::answering::{CONSUMER_NOT_FOUND, UNKNOWN_ERROR, also_answer, ignore, refuse};
-use broker_plans::{place_consumed, sub_at};
-use broker_state::{BookChange, BookWrite, BrokerState, Plan};
+use broker_plans::{sub_at, sub_index_consumed};
+use broker_state::{BrokerState, Plan, StateChange, StateWrite};
 use broker_subs::SubChange;
 use geo_base::{Frame, Memory};
 use std::alloc::Global;
 
 /// What FLOW will do: the consumer gains permits, if it is here.
 pub(crate) fn serve_flow(
-    book: &BrokerState,
+    state: &BrokerState,
     client: u32,
     id: u64,
     permits: u64,
     plan: &mut Plan,
 ) -> Result<(), Memory>
     requires empty { IsEmptyPlan plan.old }
-    ensures prepared { OnOk result (IsPrepared book.now.site book.now.broker (serve_flow client permits (consumed_by book.now.broker.subs client id)) plan.new) }
+    ensures prepared { OnOk result (IsPrepared state.now.site state.now.broker (serve_flow client permits (consumed_by state.now.broker.subs client id)) plan.new) }
     ensures room { (room : Room) → OnOk result (HasRoom room plan.new) }
 {
-    match place_consumed(book, client, id) {
+    match sub_index_consumed(state, client, id) {
         None => {
-            ignore(book, plan);
+            ignore(state, plan);
             Ok(())
         }
-        Some(place) => permit(book, client, place, permits, plan),
+        Some(sub_index) => permit(state, client, sub_index, permits, plan),
     }
 }
 
 /// A consumer of the subscription at a place gains permits.
 fn permit(
-    book: &BrokerState,
+    state: &BrokerState,
     client: u32,
-    place: usize,
+    sub_index: usize,
     permits: u64,
     plan: &mut Plan,
 ) -> Result<(), Memory>
-    requires place { place < length book.now.broker.subs }
+    requires sub_index { sub_index < length state.now.broker.subs }
     requires empty { IsEmptyPlan plan.old }
-    ensures prepared { OnOk result (IsPrepared book.now.site book.now.broker (quiet_plan (change.Permit (sub_at book.now.broker.subs place).name client permits ∷ [])) plan.new) }
+    ensures prepared { OnOk result (IsPrepared state.now.site state.now.broker (quiet_plan (change.Permit (sub_at state.now.broker.subs sub_index).name client permits ∷ [])) plan.new) }
     ensures room { (room : Room) → OnOk result (HasRoom room plan.new) }
 {
-    plan.begin(place);
-    plan.change(BookChange::Sub(SubChange::Permit { client, permits }))?;
+    plan.begin(sub_index);
+    plan.change(StateChange::Sub(SubChange::Permit { client, permits }))?;
     Ok(())
 }
 
 /// What UNSUBSCRIBE will do.
 pub(crate) fn serve_unsubscribe(
     alloc: Global,
-    book: &BrokerState,
+    state: &BrokerState,
     client: u32,
     id: u64,
     request: u64,
     plan: &mut Plan,
 ) -> Result<(), Memory>
-    requires open { IsOpen book.now.broker client }
+    requires open { IsOpen state.now.broker client }
     requires empty { IsEmptyPlan plan.old }
-    ensures prepared { OnOk result (IsPrepared book.now.site book.now.broker (serve_unsubscribe client (open_at book.now.broker client) request (consumed_by book.now.broker.subs client id)) plan.new) }
+    ensures prepared { OnOk result (IsPrepared state.now.site state.now.broker (serve_unsubscribe client (open_at state.now.broker client) request (consumed_by state.now.broker.subs client id)) plan.new) }
     ensures room { (room : Room) → OnOk result (HasRoom room plan.new) }
 {
-    match place_consumed(book, client, id) {
-        None => refuse(alloc, book, client, request, CONSUMER_NOT_FOUND, plan),
-        Some(place) => unsubscribe(alloc, book, client, place, request, plan),
+    match sub_index_consumed(state, client, id) {
+        None => refuse(alloc, state, client, request, CONSUMER_NOT_FOUND, plan),
+        Some(sub_index) => unsubscribe(alloc, state, client, sub_index, request, plan),
     }
 }
 
 /// The subscription at a place ends with its last consumer's wish alone.
 fn unsubscribe(
     alloc: Global,
-    book: &BrokerState,
+    state: &BrokerState,
     client: u32,
-    place: usize,
+    sub_index: usize,
     request: u64,
     plan: &mut Plan,
 ) -> Result<(), Memory>
-    requires open { IsOpen book.now.broker client }
-    requires place { place < length book.now.broker.subs }
+    requires open { IsOpen state.now.broker client }
+    requires sub_index { sub_index < length state.now.broker.subs }
     requires empty { IsEmptyPlan plan.old }
-    ensures prepared { OnOk result (IsPrepared book.now.site book.now.broker (serve_unsubscribe client (open_at book.now.broker client) request (Some (sub_at book.now.broker.subs place))) plan.new) }
+    ensures prepared { OnOk result (IsPrepared state.now.site state.now.broker (serve_unsubscribe client (open_at state.now.broker client) request (Some (sub_at state.now.broker.subs sub_index))) plan.new) }
     ensures room { (room : Room) → OnOk result (HasRoom room plan.new) }
 {
-    if sub_at(book, place).consumers().len() > 1 {
-        return refuse(alloc, book, client, request, UNKNOWN_ERROR, plan);
+    if sub_at(state, sub_index).consumers().len() > 1 {
+        return refuse(alloc, state, client, request, UNKNOWN_ERROR, plan);
     }
-    delete(book, place, plan)?;
-    also_answer(alloc, book, client, plan, Frame::Success { request })?;
+    delete(state, sub_index, plan)?;
+    also_answer(alloc, state, client, plan, Frame::Success { request })?;
     Ok(())
 }
 
 /// The subscription at a place is deleted.
 #[tactic(auto, using(crate::proofs::Shapes::deletes, crate::proofs::Shapes::delete_room))]
-fn delete(book: &BrokerState, place: usize, plan: &mut Plan) -> Result<(), Memory>
-    requires place { place < length book.now.broker.subs }
+fn delete(state: &BrokerState, sub_index: usize, plan: &mut Plan) -> Result<(), Memory>
+    requires sub_index { sub_index < length state.now.broker.subs }
     requires empty { IsEmptyPlan plan.old }
-    ensures prepared { OnOk result (IsPrepared book.now.site book.now.broker (plan_of (write.Delete (sub_at book.now.broker.subs place).name ∷ []) [] []) plan.new) }
+    ensures prepared { OnOk result (IsPrepared state.now.site state.now.broker (plan_of (write.Delete (sub_at state.now.broker.subs sub_index).name ∷ []) [] []) plan.new) }
     ensures room { (room : Room) → OnOk result (HasRoom room plan.new) }
 {
-    plan.begin(place);
-    plan.write(BookWrite::Delete)?;
+    plan.begin(sub_index);
+    plan.write(StateWrite::Delete)?;
     Ok(())
 }
 
 /// What CLOSE_CONSUMER will do.
 pub(crate) fn serve_close_consumer(
     alloc: Global,
-    book: &BrokerState,
+    state: &BrokerState,
     client: u32,
     id: u64,
     request: u64,
     plan: &mut Plan,
 ) -> Result<(), Memory>
-    requires open { IsOpen book.now.broker client }
+    requires open { IsOpen state.now.broker client }
     requires empty { IsEmptyPlan plan.old }
-    ensures prepared { OnOk result (IsPrepared book.now.site book.now.broker (serve_close_consumer client (open_at book.now.broker client) request (consumed_by book.now.broker.subs client id)) plan.new) }
+    ensures prepared { OnOk result (IsPrepared state.now.site state.now.broker (serve_close_consumer client (open_at state.now.broker client) request (consumed_by state.now.broker.subs client id)) plan.new) }
     ensures room { (room : Room) → OnOk result (HasRoom room plan.new) }
 {
-    match place_consumed(book, client, id) {
-        None => refuse(alloc, book, client, request, CONSUMER_NOT_FOUND, plan),
-        Some(_) => close_consumer(alloc, book, client, request, plan),
+    match sub_index_consumed(state, client, id) {
+        None => refuse(alloc, state, client, request, CONSUMER_NOT_FOUND, plan),
+        Some(_) => close_consumer(alloc, state, client, request, plan),
     }
 }
 
 /// A client's consumers leave, and it is told.
 fn close_consumer(
     alloc: Global,
-    book: &BrokerState,
+    state: &BrokerState,
     client: u32,
     request: u64,
     plan: &mut Plan,
 ) -> Result<(), Memory>
-    requires open { IsOpen book.now.broker client }
+    requires open { IsOpen state.now.broker client }
     requires empty { IsEmptyPlan plan.old }
-    ensures prepared { OnOk result (IsPrepared book.now.site book.now.broker (plan_of [] (change.Detach client ∷ []) (succeeds client (open_at book.now.broker client) request)) plan.new) }
+    ensures prepared { OnOk result (IsPrepared state.now.site state.now.broker (plan_of [] (change.Detach client ∷ []) (succeeds client (open_at state.now.broker client) request)) plan.new) }
     ensures room { (room : Room) → OnOk result (HasRoom room plan.new) }
 {
-    detach_client(book, client, plan)?;
-    also_answer(alloc, book, client, plan, Frame::Success { request })?;
+    detach_client(state, client, plan)?;
+    also_answer(alloc, state, client, plan, Frame::Success { request })?;
     Ok(())
 }
 
 /// A client's consumers leave.
 #[tactic(auto, using(crate::proofs::Shapes::detaches, crate::proofs::Shapes::detach_room))]
-fn detach_client(book: &BrokerState, client: u32, plan: &mut Plan) -> Result<(), Memory>
+fn detach_client(state: &BrokerState, client: u32, plan: &mut Plan) -> Result<(), Memory>
     requires empty { IsEmptyPlan plan.old }
-    ensures prepared { OnOk result (IsPrepared book.now.site book.now.broker (plan_of [] (change.Detach client ∷ []) []) plan.new) }
+    ensures prepared { OnOk result (IsPrepared state.now.site state.now.broker (plan_of [] (change.Detach client ∷ []) []) plan.new) }
     ensures room { (room : Room) → OnOk result (HasRoom room plan.new) }
 {
     plan.begin(0);
-    plan.change(BookChange::Detach { client })?;
+    plan.change(StateChange::Detach { client })?;
     Ok(())
 }

@@ -15,7 +15,7 @@ ghost use Rattle.broker_packets.specs.Serving.{IsOpen, open_at};
 use crate::answering::{
     PRODUCER_BUSY, UNKNOWN_ERROR, also_answer, open_producers, open_session, refuse,
 };
-use broker_state::{BookChange, BrokerState, Plan};
+use broker_state::{BrokerState, Plan, StateChange};
 use geo_base::limits::PRODUCER_NAME_BYTES;
 use geo_base::{AttachedProducer, Frame, Memory, Sequence, Session, Text};
 use std::alloc::Global;
@@ -32,105 +32,105 @@ pub(crate) struct Attaching {
 /// What PRODUCER will do: the producer attaches, or is refused.
 pub(crate) fn serve_producer(
     alloc: Global,
-    book: &BrokerState,
+    state: &BrokerState,
     client: u32,
     asked: &Attaching,
     plan: &mut Plan,
 ) -> Result<(), Memory>
-    requires open { IsOpen book.now.broker client }
+    requires open { IsOpen state.now.broker client }
     requires empty { IsEmptyPlan plan.old }
-    ensures prepared { OnOk result (IsPrepared book.now.site book.now.broker (serve_producer book.now.site book.now.broker client (open_at book.now.broker client) asked.now.topic asked.now.id asked.now.request asked.now.name) plan.new) }
+    ensures prepared { OnOk result (IsPrepared state.now.site state.now.broker (serve_producer state.now.site state.now.broker client (open_at state.now.broker client) asked.now.topic asked.now.id asked.now.request asked.now.name) plan.new) }
     ensures room { (room : Room) → OnOk result (HasRoom room plan.new) }
 {
     match &asked.name {
-        None => refuse(alloc, book, client, asked.request, UNKNOWN_ERROR, plan),
-        Some(name) => attach_unless_refused(alloc, book, client, asked, name, plan),
+        None => refuse(alloc, state, client, asked.request, UNKNOWN_ERROR, plan),
+        Some(name) => attach_unless_refused(alloc, state, client, asked, name, plan),
     }
 }
 
 /// What PRODUCER with a name will do.
 fn attach_unless_refused(
     alloc: Global,
-    book: &BrokerState,
+    state: &BrokerState,
     client: u32,
     asked: &Attaching,
     name: &Text,
     plan: &mut Plan,
 ) -> Result<(), Memory>
-    requires open { IsOpen book.now.broker client }
+    requires open { IsOpen state.now.broker client }
     requires empty { IsEmptyPlan plan.old }
-    ensures prepared { OnOk result (IsPrepared book.now.site book.now.broker (serve_producer book.now.site book.now.broker client (open_at book.now.broker client) asked.now.topic asked.now.id asked.now.request (Some name.now)) plan.new) }
+    ensures prepared { OnOk result (IsPrepared state.now.site state.now.broker (serve_producer state.now.site state.now.broker client (open_at state.now.broker client) asked.now.topic asked.now.id asked.now.request (Some name.now)) plan.new) }
     ensures room { (room : Room) → OnOk result (HasRoom room plan.new) }
 {
-    match refusal(book, client, &asked.topic, name) {
-        Some(code) => refuse(alloc, book, client, asked.request, code, plan),
-        None => attach_producer(alloc, book, client, asked, name, plan),
+    match refusal(state, client, &asked.topic, name) {
+        Some(code) => refuse(alloc, state, client, asked.request, code, plan),
+        None => attach_producer(alloc, state, client, asked, name, plan),
     }
 }
 
 /// Why a producer may not attach, as a ServerError, if it may not.
-fn refusal(book: &BrokerState, client: u32, topic: &Text, name: &Text) -> Option<u64>
-    ensures refusal { result ≡ refusal book.now.site book.now.broker client topic.now name.now }
+fn refusal(state: &BrokerState, client: u32, topic: &Text, name: &Text) -> Option<u64>
+    ensures refusal { result ≡ refusal state.now.site state.now.broker client topic.now name.now }
     ensures allowed { result ≡ None → may_attach name.now ≡ true }
 {
-    if !is_allowed(book, topic, name) {
+    if !is_allowed(state, topic, name) {
         return Some(UNKNOWN_ERROR);
     }
-    if is_taken(name.as_bytes(), client, book.sessions()) {
+    if is_taken(name.as_bytes(), client, state.sessions()) {
         return Some(PRODUCER_BUSY);
     }
     None
 }
 
 /// Whether the topic is the broker's, and the name may be a producer's.
-fn is_allowed(book: &BrokerState, topic: &Text, name: &Text) -> bool
-    ensures { result ≡ (bytes_eq topic.now book.now.site.topic && may_attach name.now) }
+fn is_allowed(state: &BrokerState, topic: &Text, name: &Text) -> bool
+    ensures { result ≡ (bytes_eq topic.now state.now.site.topic && may_attach name.now) }
 {
-    topic.as_bytes() == book.site().topic().as_str().as_bytes() && may_attach(name.as_bytes())
+    topic.as_bytes() == state.site().topic().as_str().as_bytes() && may_attach(name.as_bytes())
 }
 
 /// A producer attaches.
 fn attach_producer(
     alloc: Global,
-    book: &BrokerState,
+    state: &BrokerState,
     client: u32,
     asked: &Attaching,
     name: &Text,
     plan: &mut Plan,
 ) -> Result<(), Memory>
-    requires open { IsOpen book.now.broker client }
+    requires open { IsOpen state.now.broker client }
     requires allowed { may_attach name.now ≡ true }
     requires empty { IsEmptyPlan plan.old }
-    ensures prepared { OnOk result (IsPrepared book.now.site book.now.broker (attaches client (open_at book.now.broker client) asked.now.id asked.now.request name.now) plan.new) }
+    ensures prepared { OnOk result (IsPrepared state.now.site state.now.broker (attaches client (open_at state.now.broker client) asked.now.id asked.now.request name.now) plan.new) }
     ensures room { (room : Room) → OnOk result (HasRoom room plan.new) }
 {
-    let kept = without_producer(alloc, asked.id, open_producers(book, client))?;
+    let kept = without_producer(alloc, asked.id, open_producers(state, client))?;
     let producers = with_producer(alloc, kept, asked.id, name)?;
-    set_producers(book, client, producers, plan)?;
+    set_producers(state, client, producers, plan)?;
     let success = Frame::ProducerSuccess {
         request: asked.request,
         name: name.copy(alloc)?,
     };
-    also_answer(alloc, book, client, plan, success)?;
+    also_answer(alloc, state, client, plan, success)?;
     Ok(())
 }
 
 /// A client's session has these producers.
 #[tactic(auto, using(crate::proofs::Shapes::client_changes, crate::proofs::Shapes::change_room_none))]
 fn set_producers(
-    book: &BrokerState,
+    state: &BrokerState,
     client: u32,
     producers: Sequence<AttachedProducer>,
     plan: &mut Plan,
 ) -> Result<(), Memory>
-    requires open { IsOpen book.now.broker client }
+    requires open { IsOpen state.now.broker client }
     requires empty { IsEmptyPlan plan.old }
-    ensures prepared { OnOk result (IsPrepared book.now.site book.now.broker (plan_of [] (with_producers client (open_at book.now.broker client) producers ∷ []) []) plan.new) }
+    ensures prepared { OnOk result (IsPrepared state.now.site state.now.broker (plan_of [] (with_producers client (open_at state.now.broker client) producers ∷ []) []) plan.new) }
     ensures room { (room : Room) → OnOk result (HasRoom room plan.new) }
 {
-    let number = open_session(book, client).number;
+    let number = open_session(state, client).number;
     plan.begin(0);
-    plan.change(BookChange::Client {
+    plan.change(StateChange::Client {
         client,
         session: Some(Session { number, producers }),
     })?;
@@ -140,41 +140,41 @@ fn set_producers(
 /// What CLOSE_PRODUCER will do.
 pub(crate) fn serve_close_producer(
     alloc: Global,
-    book: &BrokerState,
+    state: &BrokerState,
     client: u32,
     id: u64,
     request: u64,
     plan: &mut Plan,
 ) -> Result<(), Memory>
-    requires open { IsOpen book.now.broker client }
+    requires open { IsOpen state.now.broker client }
     requires empty { IsEmptyPlan plan.old }
-    ensures prepared { OnOk result (IsPrepared book.now.site book.now.broker (serve_close_producer client (open_at book.now.broker client) id request) plan.new) }
+    ensures prepared { OnOk result (IsPrepared state.now.site state.now.broker (serve_close_producer client (open_at state.now.broker client) id request) plan.new) }
     ensures room { (room : Room) → OnOk result (HasRoom room plan.new) }
 {
-    if has_id(id, open_producers(book, client)) {
-        close_producer(alloc, book, client, id, request, plan)
+    if has_id(id, open_producers(state, client)) {
+        close_producer(alloc, state, client, id, request, plan)
     } else {
-        refuse(alloc, book, client, request, UNKNOWN_ERROR, plan)
+        refuse(alloc, state, client, request, UNKNOWN_ERROR, plan)
     }
 }
 
 /// The producer of an id leaves the session.
 fn close_producer(
     alloc: Global,
-    book: &BrokerState,
+    state: &BrokerState,
     client: u32,
     id: u64,
     request: u64,
     plan: &mut Plan,
 ) -> Result<(), Memory>
-    requires open { IsOpen book.now.broker client }
+    requires open { IsOpen state.now.broker client }
     requires empty { IsEmptyPlan plan.old }
-    ensures prepared { OnOk result (IsPrepared book.now.site book.now.broker (plan_of [] (with_producers client (open_at book.now.broker client) (without_producer id (open_at book.now.broker client).producers) ∷ []) (succeeds client (open_at book.now.broker client) request)) plan.new) }
+    ensures prepared { OnOk result (IsPrepared state.now.site state.now.broker (plan_of [] (with_producers client (open_at state.now.broker client) (without_producer id (open_at state.now.broker client).producers) ∷ []) (succeeds client (open_at state.now.broker client) request)) plan.new) }
     ensures room { (room : Room) → OnOk result (HasRoom room plan.new) }
 {
-    let kept = without_producer(alloc, id, open_producers(book, client))?;
-    set_producers(book, client, kept, plan)?;
-    also_answer(alloc, book, client, plan, Frame::Success { request })?;
+    let kept = without_producer(alloc, id, open_producers(state, client))?;
+    set_producers(state, client, kept, plan)?;
+    also_answer(alloc, state, client, plan, Frame::Success { request })?;
     Ok(())
 }
 

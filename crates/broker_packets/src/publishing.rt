@@ -18,7 +18,7 @@ use crate::producing::name_with;
 use broker_plans::storing;
 use broker_state::{BrokerState, Plan};
 use frame_values::is_within_limit;
-use geo_base::{Content, Entry, Frame, Memory, Place, Text};
+use geo_base::{ClusterRef, Content, Entry, Frame, Memory, Text};
 use std::alloc::Global;
 
 /// What SEND publishes.
@@ -26,7 +26,7 @@ use std::alloc::Global;
 pub(crate) struct Publish {
     pub id: u64,
     pub seq: u64,
-    pub source: Option<Place>,
+    pub source: Option<ClusterRef>,
     pub entry: Entry,
 }
 
@@ -34,39 +34,39 @@ pub(crate) struct Publish {
 /// any other is refused.
 pub(crate) fn serve_send(
     alloc: Global,
-    book: &mut BrokerState,
+    state: &mut BrokerState,
     client: u32,
     publish: Publish,
     plan: &mut Plan,
 ) -> Result<(), Memory>
-    requires open { IsOpen book.old.broker client }
+    requires open { IsOpen state.old.broker client }
     requires read { IsReadEntry publish.entry }
     requires empty { IsEmptyPlan plan.old }
-    ensures prepared { OnOk result (IsPrepared book.old.site book.old.broker (serve_send book.old.site book.old.broker client (open_at book.old.broker client) publish.id publish.seq publish.source publish.entry (name_with publish.id (open_at book.old.broker client).producers)) plan.new) }
-    ensures room { OnOk result (HasRoom book.new.room plan.new) }
-    ensures kept { SameState book.old book.new }
+    ensures prepared { OnOk result (IsPrepared state.old.site state.old.broker (serve_send state.old.site state.old.broker client (open_at state.old.broker client) publish.id publish.seq publish.source publish.entry (name_with publish.id (open_at state.old.broker client).producers)) plan.new) }
+    ensures room { OnOk result (HasRoom state.new.room plan.new) }
+    ensures kept { SameState state.old state.new }
 {
-    if may_publish(book, client, &publish) {
-        store(alloc, book, client, publish, plan)
+    if may_publish(state, client, &publish) {
+        store(alloc, state, client, publish, plan)
     } else {
         let Publish { id, seq, .. } = publish;
         drop(publish);
-        refuse_send(alloc, book, client, id, seq, plan)
+        refuse_send(alloc, state, client, id, seq, plan)
     }
 }
 
 /// A SEND is refused.
 fn refuse_send(
     alloc: Global,
-    book: &BrokerState,
+    state: &BrokerState,
     client: u32,
     id: u64,
     seq: u64,
     plan: &mut Plan,
 ) -> Result<(), Memory>
-    requires open { IsOpen book.now.broker client }
+    requires open { IsOpen state.now.broker client }
     requires empty { IsEmptyPlan plan.old }
-    ensures prepared { OnOk result (IsPrepared book.now.site book.now.broker (answers client (open_at book.now.broker client) (frame.SendError id seq unknown_error)) plan.new) }
+    ensures prepared { OnOk result (IsPrepared state.now.site state.now.broker (answers client (open_at state.now.broker client) (frame.SendError id seq unknown_error)) plan.new) }
     ensures room { (room : Room) → OnOk result (HasRoom room plan.new) }
 {
     let frame = Frame::SendError {
@@ -74,23 +74,23 @@ fn refuse_send(
         seq,
         code: UNKNOWN_ERROR,
     };
-    answer(alloc, book, client, frame, plan)
+    answer(alloc, state, client, frame, plan)
 }
 
 /// A sound message is stored, or is a duplicate, and is answered either way.
 fn store(
     alloc: Global,
-    book: &mut BrokerState,
+    state: &mut BrokerState,
     client: u32,
     publish: Publish,
     plan: &mut Plan,
 ) -> Result<(), Memory>
-    requires open { IsOpen book.old.broker client }
-    requires storable { IsStorable book.old.site (with_origin book.old.site.own publish.entry) }
+    requires open { IsOpen state.old.broker client }
+    requires storable { IsStorable state.old.site (with_origin state.old.site.own publish.entry) }
     requires empty { IsEmptyPlan plan.old }
-    ensures prepared { OnOk result (IsPrepared book.old.site book.old.broker (stores book.old.site book.old.broker client (open_at book.old.broker client) publish.id publish.seq (with_origin book.old.site.own publish.entry)) plan.new) }
-    ensures room { OnOk result (HasRoom book.new.room plan.new) }
-    ensures kept { SameState book.old book.new }
+    ensures prepared { OnOk result (IsPrepared state.old.site state.old.broker (stores state.old.site state.old.broker client (open_at state.old.broker client) publish.id publish.seq (with_origin state.old.site.own publish.entry)) plan.new) }
+    ensures room { OnOk result (HasRoom state.new.room plan.new) }
+    ensures kept { SameState state.old state.new }
 {
     let Publish {
         id,
@@ -99,46 +99,46 @@ fn store(
         mut entry,
     } = publish;
     drop(source);
-    entry.ident.origin = book.site().own();
-    let position = storing(alloc, book, entry, plan)?;
+    entry.ident.origin = state.site().own();
+    let position = storing(alloc, state, entry, plan)?;
     let receipt = Frame::SendReceipt {
         id,
         seq,
         position: Some(position),
     };
-    also_answer(alloc, book, client, plan, receipt)?;
+    also_answer(alloc, state, client, plan, receipt)?;
     Ok(())
 }
 
 /// Whether a SEND is of a producer of the session, and its message is sound.
-fn may_publish(book: &BrokerState, client: u32, publish: &Publish) -> bool
-    requires { IsOpen book.now.broker client }
-    ensures { result ≡ published book.now.site (name_with publish.now.id (open_at book.now.broker client).producers) publish.now.seq publish.now.source publish.now.entry }
+fn may_publish(state: &BrokerState, client: u32, publish: &Publish) -> bool
+    requires { IsOpen state.now.broker client }
+    ensures { result ≡ published state.now.site (name_with publish.now.id (open_at state.now.broker client).producers) publish.now.seq publish.now.source publish.now.entry }
 {
-    let name = name_with(publish.id, open_producers(book, client));
-    is_published(book, name, publish)
+    let name = name_with(publish.id, open_producers(state, client));
+    is_published(state, name, publish)
 }
 
 /// Whether there is a producer of this name, and the message is sound for it.
-fn is_published(book: &BrokerState, name: Option<&Text>, publish: &Publish) -> bool
-    ensures { result ≡ published book.now.site (option_copied name.entry) publish.now.seq publish.now.source publish.now.entry }
+fn is_published(state: &BrokerState, name: Option<&Text>, publish: &Publish) -> bool
+    ensures { result ≡ published state.now.site (option_copied name.entry) publish.now.seq publish.now.source publish.now.entry }
 {
     match name {
         None => false,
-        Some(name) => is_sound(book, name, publish),
+        Some(name) => is_sound(state, name, publish),
     }
 }
 
 /// Whether the producer of a name may publish a message: metadata and command agree, no cluster stored it before, it is no marker,
 /// and it is not too large.
-fn is_sound(book: &BrokerState, name: &Text, publish: &Publish) -> bool
-    ensures { result ≡ is_sound book.now.site name.now publish.now.seq publish.now.source publish.now.entry }
+fn is_sound(state: &BrokerState, name: &Text, publish: &Publish) -> bool
+    ensures { result ≡ is_sound state.now.site name.now publish.now.seq publish.now.source publish.now.entry }
 {
     name.as_bytes() == publish.entry.ident.producer.as_bytes()
         && publish.seq == publish.entry.ident.seq
         && publish.source.is_none()
         && is_data(&publish.entry.content)
-        && is_within_limit(book.site().clusters(), &publish.entry)
+        && is_within_limit(state.site().clusters(), &publish.entry)
 }
 
 fn is_data(content: &Content) -> bool

@@ -2,7 +2,7 @@
 ghost use Rattle.std.specs.Prelude.{◌≡◌, ◌<◌, ◌+◌, [], ◌∷◌, length, IfOk, OnOk};
 ghost use Rattle.geo_base.specs.declared.change.Change.TheVariants as change;
 ghost use Rattle.geo_base.specs.declared.write.Write.TheVariants as write;
-ghost use Rattle.geo_base.specs.Broker.{sender_at};
+ghost use Rattle.geo_base.specs.Broker.{replicator_at};
 ghost use Rattle.geo_base.specs.Forwarding.{reset, resets};
 ghost use Rattle.geo_base.specs.Plan.{plan_of};
 ghost use Rattle.broker_state.specs.Plan.{IsEmptyPlan};
@@ -12,7 +12,7 @@ ghost use Rattle.broker_packets.specs.Answers.{IsBrief, opening, opening_out};
 ghost use Rattle.broker_packets.specs.Ready.{SessionFits};
 
 use broker_plans::also_send;
-use broker_state::{BookChange, BookWrite, BrokerState, Plan};
+use broker_state::{BrokerState, Plan, StateChange, StateWrite};
 use geo_base::{Frame, Memory, Peer, Text};
 use std::alloc::Global;
 
@@ -20,92 +20,92 @@ use std::alloc::Global;
 #[tactic(auto, using(crate::proofs::Plans::idle_room, crate::proofs::Resets::remote_within))]
 pub fn prepare_reset(
     alloc: Global,
-    book: &BrokerState,
+    state: &BrokerState,
     remote: u32,
     plan: &mut Plan,
 ) -> Result<(), Memory>
-    requires session { SessionFits book.now.broker remote }
+    requires session { SessionFits state.now.broker remote }
     requires empty { IsEmptyPlan plan.old }
-    ensures prepared { OnOk result (IsPrepared book.now.site book.now.broker (reset book.now.site book.now.broker remote) plan.new) }
+    ensures prepared { OnOk result (IsPrepared state.now.site state.now.broker (reset state.now.site state.now.broker remote) plan.new) }
     ensures room { (room : Room) → OnOk result (HasRoom room plan.new) }
 {
-    if !book.site().is_remote(remote) {
+    if !state.site().is_remote(remote) {
         return Ok(());
     }
-    let session = next_session(book, remote);
-    begin_session(alloc, book, remote, session, plan)
+    let session = next_session(state, remote);
+    begin_session(alloc, state, remote, session, plan)
 }
 
 /// The number of the next session to a cluster.
-fn next_session(book: &BrokerState, remote: u32) -> u64
-    requires within { remote < length book.now.broker.senders }
-    requires fits { SessionFits book.now.broker remote }
-    ensures { result ≡ (sender_at book.now.broker remote).session + 1 }
+fn next_session(state: &BrokerState, remote: u32) -> u64
+    requires within { remote < length state.now.broker.replicators }
+    requires fits { SessionFits state.now.broker remote }
+    ensures { result ≡ (replicator_at state.now.broker remote).session + 1 }
 {
-    book.sender(remote).sender().session() + 1
+    state.replicator(remote).replicator().session() + 1
 }
 
 /// The session's number is written, and the session is to be opened.
 fn begin_session(
     alloc: Global,
-    book: &BrokerState,
+    state: &BrokerState,
     remote: u32,
     session: u64,
     plan: &mut Plan,
 ) -> Result<(), Memory>
-    requires remote { remote < length book.now.broker.senders }
+    requires remote { remote < length state.now.broker.replicators }
     requires empty { IsEmptyPlan plan.old }
-    ensures prepared { OnOk result (IsPrepared book.now.site book.now.broker (resets book.now.site remote session) plan.new) }
+    ensures prepared { OnOk result (IsPrepared state.now.site state.now.broker (resets state.now.site remote session) plan.new) }
     ensures room { (room : Room) → OnOk result (HasRoom room plan.new) }
 {
-    write_session(book, remote, session, plan)?;
-    also_open(alloc, book, plan, remote, session)?;
+    write_session(state, remote, session, plan)?;
+    also_open(alloc, state, plan, remote, session)?;
     Ok(())
 }
 
 /// The same before its packet is sent.
 #[tactic(auto, using(crate::proofs::Plans::begins_prepared, crate::proofs::Plans::begins_room))]
 fn write_session(
-    book: &BrokerState,
+    state: &BrokerState,
     remote: u32,
     session: u64,
     plan: &mut Plan,
 ) -> Result<(), Memory>
-    requires remote { remote < length book.now.broker.senders }
+    requires remote { remote < length state.now.broker.replicators }
     requires empty { IsEmptyPlan plan.old }
-    ensures prepared { OnOk result (IsPrepared book.now.site book.now.broker (plan_of (write.SessionNumber remote session ∷ []) (change.Opening remote ∷ []) []) plan.new) }
+    ensures prepared { OnOk result (IsPrepared state.now.site state.now.broker (plan_of (write.SessionNumber remote session ∷ []) (change.Opening remote ∷ []) []) plan.new) }
     ensures room { (room : Room) → OnOk result (HasRoom room plan.new) }
 {
     plan.begin(0);
-    plan.write(BookWrite::SessionNumber { remote, session })?;
-    plan.change(BookChange::Opening { remote })?;
+    plan.write(StateWrite::SessionNumber { remote, session })?;
+    plan.change(StateChange::Opening { remote })?;
     Ok(())
 }
 
 /// An event that also sends the packet that opens a session.
 fn also_open(
     alloc: Global,
-    book: &BrokerState,
+    state: &BrokerState,
     plan: &mut Plan,
     remote: u32,
     session: u64,
 ) -> Result<(), Memory>
-    ensures { OnOk result (AlsoSends book.now.site.clusters (opening_out book.now.site remote session) plan.old plan.new) }
+    ensures { OnOk result (AlsoSends state.now.site.clusters (opening_out state.now.site remote session) plan.old plan.new) }
 {
-    let frame = opening_frame(alloc, book, session)?;
+    let frame = opening_frame(alloc, state, session)?;
     let to = Peer::Forward(remote);
-    let sent = also_send(alloc, book, plan, to, session, &frame);
+    let sent = also_send(alloc, state, plan, to, session, &frame);
     drop(frame);
     sent?;
     Ok(())
 }
 
 /// The packet that opens a session has its number as producer id and as request id.
-fn opening_frame(alloc: Global, book: &BrokerState, session: u64) -> Result<Frame, Memory>
-    ensures frame { IfOk result (λ f. f ≡ opening book.now.site session) }
-    ensures brief { IfOk result (IsBrief book.now.site.clusters) }
+fn opening_frame(alloc: Global, state: &BrokerState, session: u64) -> Result<Frame, Memory>
+    ensures frame { IfOk result (λ f. f ≡ opening state.now.site session) }
+    ensures brief { IfOk result (IsBrief state.now.site.clusters) }
 {
-    let site = book.site();
+    let site = state.site();
     let topic = Text::from_str(alloc, site.topic().as_str())?;
     let name = site.link_producer(alloc, site.own())?;
     Ok(Frame::Producer {

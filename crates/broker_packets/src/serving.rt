@@ -17,7 +17,7 @@ use crate::producing::{Attaching, serve_close_producer, serve_producer};
 use crate::publishing::{Publish, serve_send};
 use crate::subscribing::{Joining, serve_subscribe};
 use broker_plans::also_send;
-use broker_state::{BookChange, BrokerState, Plan};
+use broker_state::{BrokerState, Plan, StateChange};
 use geo_base::{Frame, Memory, Packet, Peer, Sequence, Session};
 use std::alloc::Global;
 
@@ -26,56 +26,56 @@ use std::alloc::Global;
 #[tactic(auto, unfolding(geo_base::specs::Serving::serve), using(crate::proofs::Shapes::idle, crate::proofs::Shapes::idle_room))]
 pub fn prepare_serve(
     alloc: Global,
-    book: &mut BrokerState,
+    state: &mut BrokerState,
     client: u32,
     packet: Option<Packet>,
     plan: &mut Plan,
 ) -> Result<(), Memory>
-    requires client { client < length book.old.broker.sessions }
-    requires can { CanWrite book.old.site book.old.broker }
+    requires client { client < length state.old.broker.sessions }
+    requires can { CanWrite state.old.site state.old.broker }
     requires read { IfSome packet (λ p. IsReadFrame p.frame) }
     requires empty { IsEmptyPlan plan.old }
-    ensures prepared { OnOk result (IsPrepared book.old.site book.old.broker (serve book.old.site book.old.broker client packet) plan.new) }
-    ensures room { OnOk result (HasRoom book.new.room plan.new) }
-    ensures kept { SameState book.old book.new }
+    ensures prepared { OnOk result (IsPrepared state.old.site state.old.broker (serve state.old.site state.old.broker client packet) plan.new) }
+    ensures room { OnOk result (HasRoom state.new.room plan.new) }
+    ensures kept { SameState state.old state.new }
 {
     match packet {
         None => Ok(()),
-        Some(packet) => serve_packet(alloc, book, client, packet, plan),
+        Some(packet) => serve_packet(alloc, state, client, packet, plan),
     }
 }
 
 /// Fills an empty plan with what the end of a client's connection will do; where the client has no session open the event is not
 /// enabled, and the plan stays empty. An `Err` is want of memory: the plan is then for its caller to clear.
 #[tactic(auto, unfolding(geo_base::specs::Serving::drop_client), using(crate::proofs::Shapes::idle, crate::proofs::Shapes::idle_room))]
-pub fn prepare_drop(book: &BrokerState, client: u32, plan: &mut Plan) -> Result<(), Memory>
-    requires client { client < length book.now.broker.sessions }
+pub fn prepare_drop(state: &BrokerState, client: u32, plan: &mut Plan) -> Result<(), Memory>
+    requires client { client < length state.now.broker.sessions }
     requires empty { IsEmptyPlan plan.old }
-    ensures prepared { OnOk result (IsPrepared book.now.site book.now.broker (drop_client book.now.broker client) plan.new) }
+    ensures prepared { OnOk result (IsPrepared state.now.site state.now.broker (drop_client state.now.broker client) plan.new) }
     ensures room { (room : Room) → OnOk result (HasRoom room plan.new) }
 {
-    match book.session(client) {
+    match state.session(client) {
         None => Ok(()),
-        Some(_) => change_session(book, client, None, plan),
+        Some(_) => change_session(state, client, None, plan),
     }
 }
 
 /// A session ends, or another one begins, and what the client had is detached.
 #[tactic(auto, using(crate::proofs::Shapes::session_changes, crate::proofs::Shapes::session_room))]
 fn change_session(
-    book: &BrokerState,
+    state: &BrokerState,
     client: u32,
     session: Option<Session>,
     plan: &mut Plan,
 ) -> Result<(), Memory>
-    requires client { client < length book.now.broker.sessions }
+    requires client { client < length state.now.broker.sessions }
     requires empty { IsEmptyPlan plan.old }
-    ensures prepared { OnOk result (IsPrepared book.now.site book.now.broker (quiet_plan (session_becomes client session)) plan.new) }
+    ensures prepared { OnOk result (IsPrepared state.now.site state.now.broker (quiet_plan (session_becomes client session)) plan.new) }
     ensures room { (room : Room) → OnOk result (HasRoom room plan.new) }
 {
     plan.begin(0);
-    plan.change(BookChange::Detach { client })?;
-    plan.change(BookChange::Client { client, session })?;
+    plan.change(StateChange::Detach { client })?;
+    plan.change(StateChange::Client { client, session })?;
     Ok(())
 }
 
@@ -83,81 +83,81 @@ fn change_session(
 /// discarded.
 fn serve_packet(
     alloc: Global,
-    book: &mut BrokerState,
+    state: &mut BrokerState,
     client: u32,
     packet: Packet,
     plan: &mut Plan,
 ) -> Result<(), Memory>
-    requires client { client < length book.old.broker.sessions }
-    requires can { CanWrite book.old.site book.old.broker }
+    requires client { client < length state.old.broker.sessions }
+    requires can { CanWrite state.old.site state.old.broker }
     requires read { IsReadFrame packet.frame }
     requires empty { IsEmptyPlan plan.old }
-    ensures prepared { OnOk result (IsPrepared book.old.site book.old.broker (serve_frame book.old.site book.old.broker client packet packet.frame) plan.new) }
-    ensures room { OnOk result (HasRoom book.new.room plan.new) }
-    ensures kept { SameState book.old book.new }
+    ensures prepared { OnOk result (IsPrepared state.old.site state.old.broker (serve_frame state.old.site state.old.broker client packet packet.frame) plan.new) }
+    ensures room { OnOk result (HasRoom state.new.room plan.new) }
+    ensures kept { SameState state.old state.new }
 {
     match packet.frame {
-        Frame::Connect => connect(alloc, book, client, packet.session, plan),
-        Frame::Unreadable => change_session(book, client, None, plan),
-        frame => serve_in(alloc, book, client, packet.session, frame, plan),
+        Frame::Connect => connect(alloc, state, client, packet.session, plan),
+        Frame::Unreadable => change_session(state, client, None, plan),
+        frame => serve_in(alloc, state, client, packet.session, frame, plan),
     }
 }
 
 /// CONNECT opens a session.
 fn connect(
     alloc: Global,
-    book: &BrokerState,
+    state: &BrokerState,
     client: u32,
     number: u64,
     plan: &mut Plan,
 ) -> Result<(), Memory>
-    requires client { client < length book.now.broker.sessions }
+    requires client { client < length state.now.broker.sessions }
     requires empty { IsEmptyPlan plan.old }
-    ensures prepared { OnOk result (IsPrepared book.now.site book.now.broker (connects client number) plan.new) }
+    ensures prepared { OnOk result (IsPrepared state.now.site state.now.broker (connects client number) plan.new) }
     ensures room { (room : Room) → OnOk result (HasRoom room plan.new) }
 {
     let session = Session {
         number,
         producers: Sequence::new(alloc),
     };
-    change_session(book, client, Some(session), plan)?;
+    change_session(state, client, Some(session), plan)?;
     let to = Peer::Client(client);
-    also_send(alloc, book, plan, to, number, &Frame::Connected)?;
+    also_send(alloc, state, plan, to, number, &Frame::Connected)?;
     Ok(())
 }
 
 /// A command in a session.
 fn serve_in(
     alloc: Global,
-    book: &mut BrokerState,
+    state: &mut BrokerState,
     client: u32,
     session: u64,
     frame: Frame,
     plan: &mut Plan,
 ) -> Result<(), Memory>
-    requires client { client < length book.old.broker.sessions }
-    requires can { CanWrite book.old.site book.old.broker }
+    requires client { client < length state.old.broker.sessions }
+    requires can { CanWrite state.old.site state.old.broker }
     requires read { IsReadFrame frame }
     requires empty { IsEmptyPlan plan.old }
-    ensures prepared { OnOk result (IsPrepared book.old.site book.old.broker (serves_in book.old.site book.old.broker client session frame) plan.new) }
-    ensures room { OnOk result (HasRoom book.new.room plan.new) }
-    ensures kept { SameState book.old book.new }
+    ensures prepared { OnOk result (IsPrepared state.old.site state.old.broker (serves_in state.old.site state.old.broker client session frame) plan.new) }
+    ensures room { OnOk result (HasRoom state.new.room plan.new) }
+    ensures kept { SameState state.old state.new }
 {
-    if is_open(book, client, session) {
-        serve_command(alloc, book, client, frame, plan)
+    if is_open(state, client, session) {
+        serve_command(alloc, state, client, frame, plan)
     } else {
         drop(frame);
-        ignore(book, plan);
+        ignore(state, plan);
         Ok(())
     }
 }
 
 /// Whether a client's open session has a number.
-pub(crate) fn is_open(book: &BrokerState, client: u32, session: u64) -> bool
-    requires { client < length book.now.broker.sessions }
-    ensures { result ≡ is_in session (session_at book.now.broker client) }
+pub(crate) fn is_open(state: &BrokerState, client: u32, session: u64) -> bool
+    requires { client < length state.now.broker.sessions }
+    ensures { result ≡ is_in session (session_at state.now.broker client) }
 {
-    match book.session(client) {
+    match state.session(client) {
         None => false,
         Some(open) => open.number == session,
     }
@@ -166,18 +166,18 @@ pub(crate) fn is_open(book: &BrokerState, client: u32, session: u64) -> bool
 /// A command of the open session: one of a producer, or another one.
 fn serve_command(
     alloc: Global,
-    book: &mut BrokerState,
+    state: &mut BrokerState,
     client: u32,
     frame: Frame,
     plan: &mut Plan,
 ) -> Result<(), Memory>
-    requires open { IsOpen book.old.broker client }
-    requires can { CanWrite book.old.site book.old.broker }
+    requires open { IsOpen state.old.broker client }
+    requires can { CanWrite state.old.site state.old.broker }
     requires read { IsReadFrame frame }
     requires empty { IsEmptyPlan plan.old }
-    ensures prepared { OnOk result (IsPrepared book.old.site book.old.broker (serve_command book.old.site book.old.broker client (open_at book.old.broker client) frame) plan.new) }
-    ensures room { OnOk result (HasRoom book.new.room plan.new) }
-    ensures kept { SameState book.old book.new }
+    ensures prepared { OnOk result (IsPrepared state.old.site state.old.broker (serve_command state.old.site state.old.broker client (open_at state.old.broker client) frame) plan.new) }
+    ensures room { OnOk result (HasRoom state.new.room plan.new) }
+    ensures kept { SameState state.old state.new }
 {
     match frame {
         Frame::Producer {
@@ -192,7 +192,7 @@ fn serve_command(
                 request,
                 name,
             };
-            let served = serve_producer(alloc, book, client, &asked, plan);
+            let served = serve_producer(alloc, state, client, &asked, plan);
             drop(asked);
             served
         }
@@ -208,31 +208,31 @@ fn serve_command(
                 source,
                 entry,
             };
-            serve_send(alloc, book, client, publish, plan)
+            serve_send(alloc, state, client, publish, plan)
         }
         Frame::CloseProducer { id, request } => {
             drop(frame);
-            serve_close_producer(alloc, book, client, id, request, plan)
+            serve_close_producer(alloc, state, client, id, request, plan)
         }
-        frame => serve_consumer(alloc, book, client, frame, plan),
+        frame => serve_consumer(alloc, state, client, frame, plan),
     }
 }
 
 /// A command by which a consumer comes or goes, or another one.
 fn serve_consumer(
     alloc: Global,
-    book: &mut BrokerState,
+    state: &mut BrokerState,
     client: u32,
     frame: Frame,
     plan: &mut Plan,
 ) -> Result<(), Memory>
-    requires open { IsOpen book.old.broker client }
-    requires can { CanWrite book.old.site book.old.broker }
+    requires open { IsOpen state.old.broker client }
+    requires can { CanWrite state.old.site state.old.broker }
     requires other { is_producers frame ≡ false }
     requires empty { IsEmptyPlan plan.old }
-    ensures prepared { OnOk result (IsPrepared book.old.site book.old.broker (serve_command book.old.site book.old.broker client (open_at book.old.broker client) frame) plan.new) }
-    ensures room { OnOk result (HasRoom book.new.room plan.new) }
-    ensures kept { SameState book.old book.new }
+    ensures prepared { OnOk result (IsPrepared state.old.site state.old.broker (serve_command state.old.site state.old.broker client (open_at state.old.broker client) frame) plan.new) }
+    ensures room { OnOk result (HasRoom state.new.room plan.new) }
+    ensures kept { SameState state.old state.new }
 {
     match frame {
         Frame::Subscribe {
@@ -255,43 +255,43 @@ fn serve_consumer(
                 earliest,
                 replicated,
             };
-            let served = serve_subscribe(alloc, book, client, &asked, plan);
+            let served = serve_subscribe(alloc, state, client, &asked, plan);
             drop(asked);
             served
         }
         Frame::Unsubscribe { id, request } => {
             drop(frame);
-            serve_unsubscribe(alloc, book, client, id, request, plan)
+            serve_unsubscribe(alloc, state, client, id, request, plan)
         }
         Frame::CloseConsumer { id, request } => {
             drop(frame);
-            serve_close_consumer(alloc, book, client, id, request, plan)
+            serve_close_consumer(alloc, state, client, id, request, plan)
         }
-        frame => serve_other(alloc, book, client, frame, plan),
+        frame => serve_other(alloc, state, client, frame, plan),
     }
 }
 
 /// FLOW, ACK and PING. A command that a client's link does not carry closes the session, without an answer.
 fn serve_other(
     alloc: Global,
-    book: &mut BrokerState,
+    state: &mut BrokerState,
     client: u32,
     frame: Frame,
     plan: &mut Plan,
 ) -> Result<(), Memory>
-    requires open { IsOpen book.old.broker client }
-    requires can { CanWrite book.old.site book.old.broker }
+    requires open { IsOpen state.old.broker client }
+    requires can { CanWrite state.old.site state.old.broker }
     requires producers { is_producers frame ≡ false }
     requires consumers { is_consumers frame ≡ false }
     requires empty { IsEmptyPlan plan.old }
-    ensures prepared { OnOk result (IsPrepared book.old.site book.old.broker (serve_command book.old.site book.old.broker client (open_at book.old.broker client) frame) plan.new) }
-    ensures room { OnOk result (HasRoom book.new.room plan.new) }
-    ensures kept { SameState book.old book.new }
+    ensures prepared { OnOk result (IsPrepared state.old.site state.old.broker (serve_command state.old.site state.old.broker client (open_at state.old.broker client) frame) plan.new) }
+    ensures room { OnOk result (HasRoom state.new.room plan.new) }
+    ensures kept { SameState state.old state.new }
 {
     match frame {
         Frame::Flow { id, permits } => {
             drop(frame);
-            serve_flow(book, client, id, permits, plan)
+            serve_flow(state, client, id, permits, plan)
         }
         Frame::Ack {
             id,
@@ -303,35 +303,35 @@ fn serve_other(
                 kind,
                 positions,
             };
-            let served = serve_ack(alloc, book, client, &acked, plan);
+            let served = serve_ack(alloc, state, client, &acked, plan);
             drop(acked);
             served
         }
         Frame::Ping => {
             drop(frame);
-            answer(alloc, book, client, Frame::Pong, plan)
+            answer(alloc, state, client, Frame::Pong, plan)
         }
         Frame::Pong => {
             drop(frame);
-            ignore(book, plan);
+            ignore(state, plan);
             Ok(())
         }
-        frame => close_session(book, client, frame, plan),
+        frame => close_session(state, client, frame, plan),
     }
 }
 
 /// A frame that nothing is done with closes the session.
 fn close_session(
-    book: &BrokerState,
+    state: &BrokerState,
     client: u32,
     frame: Frame,
     plan: &mut Plan,
 ) -> Result<(), Memory>
-    requires client { client < length book.now.broker.sessions }
+    requires client { client < length state.now.broker.sessions }
     requires empty { IsEmptyPlan plan.old }
-    ensures prepared { OnOk result (IsPrepared book.now.site book.now.broker (quiet_plan (session_becomes client None)) plan.new) }
+    ensures prepared { OnOk result (IsPrepared state.now.site state.now.broker (quiet_plan (session_becomes client None)) plan.new) }
     ensures room { (room : Room) → OnOk result (HasRoom room plan.new) }
 {
     drop(frame);
-    change_session(book, client, None, plan)
+    change_session(state, client, None, plan)
 }

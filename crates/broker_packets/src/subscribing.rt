@@ -8,7 +8,7 @@ ghost use Rattle.geo_base.specs.Name.{is_name};
 ghost use Rattle.geo_base.specs.Subscribing.{altering, has_room, is_busy, joins, same_kind, serve_subscribe, subscribes};
 ghost use Rattle.geo_base.specs.Subscription.{is_attached};
 ghost use Rattle.broker_subs.specs.Table.{room_at, sub_at};
-ghost use Rattle.broker_state.specs.Plan.{IsEmptyPlan, quiet_book};
+ghost use Rattle.broker_state.specs.Plan.{IsEmptyPlan, quiet_view};
 ghost use Rattle.broker_state.specs.Room.{HasRoom};
 ghost use Rattle.broker_state.specs.State.{SameState};
 ghost use Rattle.broker_plans.specs.Prepared.{IsPrepared};
@@ -16,8 +16,8 @@ ghost use Rattle.broker_packets.specs.Serving.{IsOpen, open_at};
 ghost use Rattle.broker_packets.specs.Subscribing.{alter_writes, altered, attach, denial, joining};
 
 use crate::answering::{CONSUMER_BUSY, UNKNOWN_ERROR, also_answer, refuse};
-use broker_plans::{place_named, sub_at};
-use broker_state::{BookChange, BookWrite, BrokerState, Plan};
+use broker_plans::{sub_at, sub_index_named};
+use broker_state::{BrokerState, Plan, StateChange, StateWrite};
 use broker_subs::{Sub, SubChange, SubWrite};
 use geo_base::limits::SUBSCRIPTIONS;
 use geo_base::{Consumer, Frame, Memory, NameFault, SubKind, SubName, Text, name_text};
@@ -38,47 +38,47 @@ pub(crate) struct Joining {
 /// What SUBSCRIBE will do.
 pub(crate) fn serve_subscribe(
     alloc: Global,
-    book: &mut BrokerState,
+    state: &mut BrokerState,
     client: u32,
     asked: &Joining,
     plan: &mut Plan,
 ) -> Result<(), Memory>
-    requires open { IsOpen book.old.broker client }
+    requires open { IsOpen state.old.broker client }
     requires empty { IsEmptyPlan plan.old }
-    ensures prepared { OnOk result (IsPrepared book.old.site book.old.broker (serve_subscribe book.old.site book.old.broker client (open_at book.old.broker client) asked.now.topic asked.now.sub asked.now.kind asked.now.id asked.now.request asked.now.earliest asked.now.replicated) plan.new) }
-    ensures room { OnOk result (HasRoom book.new.room plan.new) }
-    ensures kept { SameState book.old book.new }
+    ensures prepared { OnOk result (IsPrepared state.old.site state.old.broker (serve_subscribe state.old.site state.old.broker client (open_at state.old.broker client) asked.now.topic asked.now.sub asked.now.kind asked.now.id asked.now.request asked.now.earliest asked.now.replicated) plan.new) }
+    ensures room { OnOk result (HasRoom state.new.room plan.new) }
+    ensures kept { SameState state.old state.new }
 {
-    match denial(book, client, asked) {
-        Some(code) => refuse(alloc, book, client, asked.request, code, plan),
-        None => subscribe(alloc, book, client, asked, plan),
+    match denial(state, client, asked) {
+        Some(code) => refuse(alloc, state, client, asked.request, code, plan),
+        None => subscribe(alloc, state, client, asked, plan),
     }
 }
 
 /// Why a client may not subscribe, as a ServerError, if it may not: unknown for another topic, for a name that is none, and for a
 /// subscription beyond the most that a topic has; busy for a client that has a consumer.
-fn denial(book: &BrokerState, client: u32, asked: &Joining) -> Option<u64>
-    ensures denial { result ≡ denial book.now.site book.now.broker client asked.now.topic asked.now.sub }
+fn denial(state: &BrokerState, client: u32, asked: &Joining) -> Option<u64>
+    ensures denial { result ≡ denial state.now.site state.now.broker client asked.now.topic asked.now.sub }
     ensures named { result ≡ None → is_name asked.now.sub ≡ true }
-    ensures apart { result ≡ None → list_any (is_attached client) book.now.broker.subs ≡ false }
+    ensures apart { result ≡ None → list_any (is_attached client) state.now.broker.subs ≡ false }
 {
-    if !admits(book, asked) {
+    if !admits(state, asked) {
         return Some(UNKNOWN_ERROR);
     }
-    if book.subs().is_attached(client) {
+    if state.subs().is_attached(client) {
         return Some(CONSUMER_BUSY);
     }
     None
 }
 
 /// Whether a subscription of this name and topic is here or may be made.
-fn admits(book: &BrokerState, asked: &Joining) -> bool
-    ensures admits { result ≡ (bytes_eq asked.now.topic book.now.site.topic && is_name asked.now.sub && has_room book.now.broker asked.now.sub) }
+fn admits(state: &BrokerState, asked: &Joining) -> bool
+    ensures admits { result ≡ (bytes_eq asked.now.topic state.now.site.topic && is_name asked.now.sub && has_room state.now.broker asked.now.sub) }
     ensures named { result ≡ true → is_name asked.now.sub ≡ true }
 {
-    asked.topic.as_bytes() == book.site().topic().as_str().as_bytes()
+    asked.topic.as_bytes() == state.site().topic().as_str().as_bytes()
         && is_name(asked.sub.as_bytes())
-        && has_room(book, &asked.sub)
+        && has_room(state, &asked.sub)
 }
 
 /// Whether bytes are a name.
@@ -89,114 +89,114 @@ fn is_name(word: &[u8]) -> bool
 }
 
 #[tactic(auto, using(broker_plans::proofs::Places::many))]
-fn has_room(book: &BrokerState, sub: &Text) -> bool
-    ensures { result ≡ has_room book.now.broker sub.now }
+fn has_room(state: &BrokerState, sub: &Text) -> bool
+    ensures { result ≡ has_room state.now.broker sub.now }
 {
-    place_named(book, sub.as_bytes()).is_some() || book.subs().len() < SUBSCRIPTIONS
+    sub_index_named(state, sub.as_bytes()).is_some() || state.subs().len() < SUBSCRIPTIONS
 }
 
 /// A consumer joins a subscription, which is created where there is none.
 #[tactic(auto, using(crate::proofs::Joins::apart_named))]
 fn subscribe(
     alloc: Global,
-    book: &mut BrokerState,
+    state: &mut BrokerState,
     client: u32,
     asked: &Joining,
     plan: &mut Plan,
 ) -> Result<(), Memory>
-    requires open { IsOpen book.old.broker client }
+    requires open { IsOpen state.old.broker client }
     requires named { is_name asked.now.sub ≡ true }
-    requires apart { list_any (is_attached client) book.old.broker.subs ≡ false }
+    requires apart { list_any (is_attached client) state.old.broker.subs ≡ false }
     requires empty { IsEmptyPlan plan.old }
-    ensures prepared { OnOk result (IsPrepared book.old.site book.old.broker (subscribes client (open_at book.old.broker client) asked.now.sub asked.now.kind asked.now.id asked.now.request asked.now.earliest asked.now.replicated (sub_named book.old.broker.subs asked.now.sub)) plan.new) }
-    ensures room { OnOk result (HasRoom book.new.room plan.new) }
-    ensures kept { SameState book.old book.new }
+    ensures prepared { OnOk result (IsPrepared state.old.site state.old.broker (subscribes client (open_at state.old.broker client) asked.now.sub asked.now.kind asked.now.id asked.now.request asked.now.earliest asked.now.replicated (sub_named state.old.broker.subs asked.now.sub)) plan.new) }
+    ensures room { OnOk result (HasRoom state.new.room plan.new) }
+    ensures kept { SameState state.old state.new }
 {
-    match place_named(book, asked.sub.as_bytes()) {
-        None => create_and_join(alloc, book, client, asked, plan),
-        Some(place) => join_unless_busy(alloc, book, client, place, asked, plan),
+    match sub_index_named(state, asked.sub.as_bytes()) {
+        None => create_and_join(alloc, state, client, asked, plan),
+        Some(sub_index) => join_unless_busy(alloc, state, client, sub_index, asked, plan),
     }
 }
 
 /// A consumer joins the subscription of its name, which is at a place, unless it is busy.
 fn join_unless_busy(
     alloc: Global,
-    book: &mut BrokerState,
+    state: &mut BrokerState,
     client: u32,
-    place: usize,
+    sub_index: usize,
     asked: &Joining,
     plan: &mut Plan,
 ) -> Result<(), Memory>
-    requires open { IsOpen book.old.broker client }
-    requires place { place < length book.old.broker.subs }
-    requires there { sub_named book.old.broker.subs asked.now.sub ≡ Some (sub_at book.old.broker.subs place) }
-    requires apart { is_attached client (sub_at book.old.broker.subs place) ≡ false }
+    requires open { IsOpen state.old.broker client }
+    requires sub_index { sub_index < length state.old.broker.subs }
+    requires there { sub_named state.old.broker.subs asked.now.sub ≡ Some (sub_at state.old.broker.subs sub_index) }
+    requires apart { is_attached client (sub_at state.old.broker.subs sub_index) ≡ false }
     requires empty { IsEmptyPlan plan.old }
-    ensures prepared { OnOk result (IsPrepared book.old.site book.old.broker (subscribes client (open_at book.old.broker client) asked.now.sub asked.now.kind asked.now.id asked.now.request asked.now.earliest asked.now.replicated (Some (sub_at book.old.broker.subs place))) plan.new) }
-    ensures room { OnOk result (HasRoom book.new.room plan.new) }
-    ensures kept { SameState book.old book.new }
+    ensures prepared { OnOk result (IsPrepared state.old.site state.old.broker (subscribes client (open_at state.old.broker client) asked.now.sub asked.now.kind asked.now.id asked.now.request asked.now.earliest asked.now.replicated (Some (sub_at state.old.broker.subs sub_index))) plan.new) }
+    ensures room { OnOk result (HasRoom state.new.room plan.new) }
+    ensures kept { SameState state.old state.new }
 {
-    if is_busy(book, client, place, asked.kind) {
-        refuse(alloc, book, client, asked.request, CONSUMER_BUSY, plan)
+    if is_busy(state, client, sub_index, asked.kind) {
+        refuse(alloc, state, client, asked.request, CONSUMER_BUSY, plan)
     } else {
-        join(alloc, book, client, place, asked, plan)
+        join(alloc, state, client, sub_index, asked, plan)
     }
 }
 
 /// Whether consumers are at the subscription at a place that one of a kind can't join, of a client that has none there.
 #[tactic(auto, using(crate::proofs::Joins::turned_away))]
-fn is_busy(book: &BrokerState, client: u32, place: usize, kind: SubKind) -> bool
-    requires place { place < length book.now.broker.subs }
-    requires apart { is_attached client (sub_at book.now.broker.subs place) ≡ false }
-    ensures { result ≡ is_busy kind (sub_at book.now.broker.subs place) }
+fn is_busy(state: &BrokerState, client: u32, sub_index: usize, kind: SubKind) -> bool
+    requires sub_index { sub_index < length state.now.broker.subs }
+    requires apart { is_attached client (sub_at state.now.broker.subs sub_index) ≡ false }
+    ensures { result ≡ is_busy kind (sub_at state.now.broker.subs sub_index) }
 {
-    sub_at(book, place).busy(client, kind)
+    sub_at(state, sub_index).busy(client, kind)
 }
 
 /// A consumer joins a subscription that is created first.
 fn create_and_join(
     alloc: Global,
-    book: &mut BrokerState,
+    state: &mut BrokerState,
     client: u32,
     asked: &Joining,
     plan: &mut Plan,
 ) -> Result<(), Memory>
-    requires open { IsOpen book.old.broker client }
+    requires open { IsOpen state.old.broker client }
     requires named { is_name asked.now.sub ≡ true }
-    requires missing { sub_named book.old.broker.subs asked.now.sub ≡ None }
+    requires missing { sub_named state.old.broker.subs asked.now.sub ≡ None }
     requires empty { IsEmptyPlan plan.old }
-    ensures prepared { OnOk result (IsPrepared book.old.site book.old.broker (joins client (open_at book.old.broker client) asked.now.sub asked.now.id asked.now.request (write.Create asked.now.sub asked.now.kind asked.now.replicated (not asked.now.earliest) ∷ [])) plan.new) }
-    ensures room { OnOk result (HasRoom book.new.room plan.new) }
-    ensures kept { SameState book.old book.new }
+    ensures prepared { OnOk result (IsPrepared state.old.site state.old.broker (joins client (open_at state.old.broker client) asked.now.sub asked.now.id asked.now.request (write.Create asked.now.sub asked.now.kind asked.now.replicated (not asked.now.earliest) ∷ [])) plan.new) }
+    ensures room { OnOk result (HasRoom state.new.room plan.new) }
+    ensures kept { SameState state.old state.new }
 {
-    book.reserve_places(1)?;
-    prepare_create(alloc, book, client, asked, plan)?;
+    state.reserve_places(1)?;
+    prepare_create(alloc, state, client, asked, plan)?;
     let success = Frame::Success {
         request: asked.request,
     };
-    also_answer(alloc, book, client, plan, success)?;
+    also_answer(alloc, state, client, plan, success)?;
     Ok(())
 }
 
 /// The subscription is created, and the consumer joins it.
 fn prepare_create(
     alloc: Global,
-    book: &BrokerState,
+    state: &BrokerState,
     client: u32,
     asked: &Joining,
     plan: &mut Plan,
 ) -> Result<(), Memory>
     requires named { is_name asked.now.sub ≡ true }
-    requires missing { sub_named book.now.broker.subs asked.now.sub ≡ None }
-    requires places { book.now.room.places ≡ 1 }
+    requires missing { sub_named state.now.broker.subs asked.now.sub ≡ None }
+    requires places { state.now.room.places ≡ 1 }
     requires empty { IsEmptyPlan plan.old }
-    ensures prepared { OnOk result (IsPrepared book.now.site book.now.broker (joining client asked.now.sub asked.now.id (write.Create asked.now.sub asked.now.kind asked.now.replicated (not asked.now.earliest) ∷ [])) plan.new) }
-    ensures room { OnOk result (HasRoom book.now.room plan.new) }
+    ensures prepared { OnOk result (IsPrepared state.now.site state.now.broker (joining client asked.now.sub asked.now.id (write.Create asked.now.sub asked.now.kind asked.now.replicated (not asked.now.earliest) ∷ [])) plan.new) }
+    ensures room { OnOk result (HasRoom state.now.room plan.new) }
 {
     let name = sub_name(alloc, &asked.sub)?;
     let sub = Sub::new(alloc, name, asked.kind, asked.replicated, 1, 1)?;
-    plan.begin(book.subs().len());
-    plan.write(BookWrite::Create {
+    plan.begin(state.subs().len());
+    plan.write(StateWrite::Create {
         sub,
         latest: !asked.earliest,
     })?;
@@ -207,55 +207,55 @@ fn prepare_create(
 /// A consumer joins the subscription at a place.
 fn join(
     alloc: Global,
-    book: &mut BrokerState,
+    state: &mut BrokerState,
     client: u32,
-    place: usize,
+    sub_index: usize,
     asked: &Joining,
     plan: &mut Plan,
 ) -> Result<(), Memory>
-    requires open { IsOpen book.old.broker client }
-    requires place { place < length book.old.broker.subs }
-    requires free { is_busy asked.now.kind (sub_at book.old.broker.subs place) ≡ false }
+    requires open { IsOpen state.old.broker client }
+    requires sub_index { sub_index < length state.old.broker.subs }
+    requires free { is_busy asked.now.kind (sub_at state.old.broker.subs sub_index) ≡ false }
     requires empty { IsEmptyPlan plan.old }
-    ensures prepared { OnOk result (IsPrepared book.old.site book.old.broker (joins client (open_at book.old.broker client) (sub_at book.old.broker.subs place).name asked.now.id asked.now.request (altering (sub_at book.old.broker.subs place) asked.now.kind asked.now.replicated)) plan.new) }
-    ensures room { OnOk result (HasRoom book.new.room plan.new) }
-    ensures kept { SameState book.old book.new }
+    ensures prepared { OnOk result (IsPrepared state.old.site state.old.broker (joins client (open_at state.old.broker client) (sub_at state.old.broker.subs sub_index).name asked.now.id asked.now.request (altering (sub_at state.old.broker.subs sub_index) asked.now.kind asked.now.replicated)) plan.new) }
+    ensures room { OnOk result (HasRoom state.new.room plan.new) }
+    ensures kept { SameState state.old state.new }
 {
-    book.reserve_sub(place, 1, 0)?;
-    prepare_join(book, client, place, asked, plan)?;
+    state.reserve_sub(sub_index, 1, 0)?;
+    prepare_join(state, client, sub_index, asked, plan)?;
     let success = Frame::Success {
         request: asked.request,
     };
-    also_answer(alloc, book, client, plan, success)?;
+    also_answer(alloc, state, client, plan, success)?;
     Ok(())
 }
 
 /// The subscription at a place takes the kind that came, where it has another one, and the consumer joins it.
 fn prepare_join(
-    book: &BrokerState,
+    state: &BrokerState,
     client: u32,
-    place: usize,
+    sub_index: usize,
     asked: &Joining,
     plan: &mut Plan,
 ) -> Result<(), Memory>
-    requires place { place < length book.now.broker.subs }
-    requires free { is_busy asked.now.kind (sub_at book.now.broker.subs place) ≡ false }
-    requires given { (room_at book.now.room.subs place).room ≡ 1 }
+    requires sub_index { sub_index < length state.now.broker.subs }
+    requires free { is_busy asked.now.kind (sub_at state.now.broker.subs sub_index) ≡ false }
+    requires given { (room_at state.now.room.subs sub_index).room ≡ 1 }
     requires empty { IsEmptyPlan plan.old }
-    ensures prepared { OnOk result (IsPrepared book.now.site book.now.broker (joining client (sub_at book.now.broker.subs place).name asked.now.id (altering (sub_at book.now.broker.subs place) asked.now.kind asked.now.replicated)) plan.new) }
-    ensures room { OnOk result (HasRoom book.now.room plan.new) }
+    ensures prepared { OnOk result (IsPrepared state.now.site state.now.broker (joining client (sub_at state.now.broker.subs sub_index).name asked.now.id (altering (sub_at state.now.broker.subs sub_index) asked.now.kind asked.now.replicated)) plan.new) }
+    ensures room { OnOk result (HasRoom state.now.room plan.new) }
 {
-    let altered = alter_write(sub_at(book, place), asked.kind, asked.replicated);
-    prepare_alter(place, altered, plan)?;
+    let altered = alter_write(sub_at(state, sub_index), asked.kind, asked.replicated);
+    prepare_alter(sub_index, altered, plan)?;
     plan.change(attach(client, asked.id))?;
     Ok(())
 }
 
 /// The consumer comes last in order, without permits.
-fn attach(client: u32, id: u64) -> BookChange
+fn attach(client: u32, id: u64) -> StateChange
     ensures { result ≡ attach client id }
 {
-    BookChange::Sub(SubChange::Attach(Consumer {
+    StateChange::Sub(SubChange::Attach(Consumer {
         client,
         id,
         permits: 0,
@@ -263,13 +263,13 @@ fn attach(client: u32, id: u64) -> BookChange
 }
 
 /// The event that alters the subscription at a place, where it is altered.
-fn prepare_alter(place: usize, altered: Option<SubWrite>, plan: &mut Plan) -> Result<(), Memory>
+fn prepare_alter(sub_index: usize, altered: Option<SubWrite>, plan: &mut Plan) -> Result<(), Memory>
     requires empty { IsEmptyPlan plan.old }
-    ensures { OnOk result (plan.new ≡ record (quiet_book place) { writes = alter_writes altered }) }
+    ensures { OnOk result (plan.new ≡ record (quiet_view sub_index) { writes = alter_writes altered }) }
 {
-    plan.begin(place);
+    plan.begin(sub_index);
     if let Some(write) = altered {
-        plan.write(BookWrite::Sub(write))?;
+        plan.write(StateWrite::Sub(write))?;
     }
     Ok(())
 }

@@ -24,39 +24,39 @@ use std::alloc::Global;
 
 /// Whether a SEND of the usual form is published as it stands: it is of a producer of the client's open session, and its message
 /// is sound and small. `false` says nothing of it.
-pub fn publishes(book: &BrokerState, client: u32, came: Came<'_>) -> bool
-    requires { client < length book.now.broker.sessions }
-    ensures { result ≡ true → Publishes book.now.site book.now.broker client came.entry }
+pub fn publishes(state: &BrokerState, client: u32, came: Came<'_>) -> bool
+    requires { client < length state.now.broker.sessions }
+    ensures { result ≡ true → Publishes state.now.site state.now.broker client came.entry }
 {
-    if is_open(book, client, came.session) {
-        is_published(book, client, came)
+    if is_open(state, client, came.session) {
+        is_published(state, client, came)
     } else {
         false
     }
 }
 
 /// Whether it is of a producer of the open session, and sound.
-fn is_published(book: &BrokerState, client: u32, came: Came<'_>) -> bool
-    requires { IsOpen book.now.broker client }
-    ensures { result ≡ true → published book.now.site (name_with came.entry.id (open_at book.now.broker client).producers) came.entry.seq (source_viewed book.now.site.clusters came.entry.message) (entry_viewed 0 came.entry.message) ≡ true }
+fn is_published(state: &BrokerState, client: u32, came: Came<'_>) -> bool
+    requires { IsOpen state.now.broker client }
+    ensures { result ≡ true → published state.now.site (name_with came.entry.id (open_at state.now.broker client).producers) came.entry.seq (source_viewed state.now.site.clusters came.entry.message) (entry_viewed 0 came.entry.message) ≡ true }
 {
-    let name = name_with(came.id, open_producers(book, client));
-    is_sound(book, name, came)
+    let name = name_with(came.id, open_producers(state, client));
+    is_sound(state, name, came)
 }
 
 /// Whether the producer of a name, if there is one, may publish it.
-fn is_sound(book: &BrokerState, name: Option<&Text>, came: Came<'_>) -> bool
-    ensures { result ≡ true → published book.now.site (option_copied name.entry) came.entry.seq (source_viewed book.now.site.clusters came.entry.message) (entry_viewed 0 came.entry.message) ≡ true }
+fn is_sound(state: &BrokerState, name: Option<&Text>, came: Came<'_>) -> bool
+    ensures { result ≡ true → published state.now.site (option_copied name.entry) came.entry.seq (source_viewed state.now.site.clusters came.entry.message) (entry_viewed 0 came.entry.message) ≡ true }
 {
     match name {
         None => false,
-        Some(name) => is_sound_for(book, name, came),
+        Some(name) => is_sound_for(state, name, came),
     }
 }
 
 /// Whether the producer of a name may publish it: metadata and command agree, no cluster stored it before, and it is small.
-fn is_sound_for(book: &BrokerState, name: &Text, came: Came<'_>) -> bool
-    ensures { result ≡ true → is_sound book.now.site name.now came.entry.seq (source_viewed book.now.site.clusters came.entry.message) (entry_viewed 0 came.entry.message) ≡ true }
+fn is_sound_for(state: &BrokerState, name: &Text, came: Came<'_>) -> bool
+    ensures { result ≡ true → is_sound state.now.site name.now came.entry.seq (source_viewed state.now.site.clusters came.entry.message) (entry_viewed 0 came.entry.message) ≡ true }
 {
     if agrees(name, came) {
         is_small(came.message)
@@ -78,26 +78,26 @@ fn agrees(name: &Text, came: Came<'_>) -> bool
 /// is want of memory.
 pub fn prepare_publish(
     alloc: Global,
-    book: &mut BrokerState,
+    state: &mut BrokerState,
     client: u32,
     came: Came<'_>,
     plan: &mut Plan,
 ) -> Result<(), Memory>
-    requires client { client < length book.old.broker.sessions }
-    requires publishes { Publishes book.old.site book.old.broker client came }
+    requires client { client < length state.old.broker.sessions }
+    requires publishes { Publishes state.old.site state.old.broker client came }
     requires empty { IsEmptyPlan plan.old }
-    ensures prepared { (stamp : ℕ) → OnOk result (IsPrepared book.old.site book.old.broker (serve book.old.site book.old.broker client (Some (record { session = came.entry.session; stamp = stamp; frame = send_viewed book.old.site.clusters came.entry }))) plan.new) }
-    ensures room { OnOk result (HasRoom book.new.room plan.new) }
-    ensures kept { SameState book.old book.new }
+    ensures prepared { (stamp : ℕ) → OnOk result (IsPrepared state.old.site state.old.broker (serve state.old.site state.old.broker client (Some (record { session = came.entry.session; stamp = stamp; frame = send_viewed state.old.site.clusters came.entry }))) plan.new) }
+    ensures room { OnOk result (HasRoom state.new.room plan.new) }
+    ensures kept { SameState state.old state.new }
 {
-    let own = book.site().own();
-    let position = storing_message(alloc, book, own, came.message, plan)?;
+    let own = state.site().own();
+    let position = storing_message(alloc, state, own, came.message, plan)?;
     let answered = Answered {
         to: Peer::Client(client),
         session: came.session,
         id: came.id,
         seq: came.seq,
     };
-    also_receipt(alloc, book, plan, answered, position)?;
+    also_receipt(alloc, state, plan, answered, position)?;
     Ok(())
 }

@@ -22,21 +22,25 @@ use std::alloc::Global;
 
 /// Whether a SEND of the usual form is acted on as it stands: it is of the session that is open on the link from a cluster, and
 /// its entry is of that cluster and small. `false` says nothing of it. A SEND opens no session.
-pub fn receives(book: &BrokerState, source: u32, came: Came<'_>) -> bool
-    requires { source < length book.now.broker.receivers }
-    ensures { result ≡ true → Receives book.now.site book.now.broker source came.entry }
+pub fn receives(state: &BrokerState, source: u32, came: Came<'_>) -> bool
+    requires { source < length state.now.broker.receivers }
+    ensures { result ≡ true → Receives state.now.site state.now.broker source came.entry }
 {
-    match book.receiver(source).next_packet(came.session, false) {
-        Taken::Process => is_brought(book, source, came.message),
+    match state.receiver(source).next_packet(came.session, false) {
+        Taken::Process => is_brought(state, source, came.message),
         Taken::Opened | Taken::Discard => false,
     }
 }
 
 /// Whether a message says that a cluster stored it first, and is small.
-fn is_brought(book: &BrokerState, source: u32, message: MessageView<'_>) -> bool
-    ensures { result ≡ true → IsBrought book.now.site source message.entry }
+fn is_brought(state: &BrokerState, source: u32, message: MessageView<'_>) -> bool
+    ensures { result ≡ true → IsBrought state.now.site source message.entry }
 {
-    if is_from(book.site().clusters(), source, message.meta.replicated_from) {
+    if is_from(
+        state.site().clusters(),
+        source,
+        message.meta.replicated_from,
+    ) {
         is_small(message)
     } else {
         false
@@ -61,25 +65,25 @@ fn is_from(names: &[ClusterName], cluster: u32, name: Option<&str>) -> bool
 /// want of memory.
 pub fn prepare_receive(
     alloc: Global,
-    book: &mut BrokerState,
+    state: &mut BrokerState,
     source: u32,
     came: Came<'_>,
     plan: &mut Plan,
 ) -> Result<(), Memory>
-    requires source { source < length book.old.broker.receivers }
-    requires receives { Receives book.old.site book.old.broker source came }
+    requires source { source < length state.old.broker.receivers }
+    requires receives { Receives state.old.site state.old.broker source came }
     requires empty { IsEmptyPlan plan.old }
-    ensures prepared { (stamp : ℕ) → OnOk result (IsPrepared book.old.site book.old.broker (take_packet book.old.site book.old.broker source fate.Good (Some (record { session = came.entry.session; stamp = stamp; frame = send_viewed book.old.site.clusters came.entry }))) plan.new) }
-    ensures room { OnOk result (HasRoom book.new.room plan.new) }
-    ensures kept { SameState book.old book.new }
+    ensures prepared { (stamp : ℕ) → OnOk result (IsPrepared state.old.site state.old.broker (take_packet state.old.site state.old.broker source fate.Good (Some (record { session = came.entry.session; stamp = stamp; frame = send_viewed state.old.site.clusters came.entry }))) plan.new) }
+    ensures room { OnOk result (HasRoom state.new.room plan.new) }
+    ensures kept { SameState state.old state.new }
 {
-    let position = storing_message(alloc, book, source, came.message, plan)?;
+    let position = storing_message(alloc, state, source, came.message, plan)?;
     let answered = Answered {
         to: Peer::Back(source),
         session: came.session,
         id: came.session,
         seq: came.seq,
     };
-    also_receipt(alloc, book, plan, answered, position)?;
+    also_receipt(alloc, state, plan, answered, position)?;
     Ok(())
 }

@@ -5,7 +5,7 @@ use Rattle.std.specs.List.{AllByRecursion}
 use Rattle.geo_base.specs.declared.entry.Entry.{Entry}
 use Rattle.geo_base.specs.declared.frame.Frame.{Frame}
 use Rattle.geo_base.specs.declared.frame.Frame.TheVariants as frame
-use Rattle.geo_base.specs.declared.marker.Place.TheVariants as place
+use Rattle.geo_base.specs.declared.marker.ClusterRef.TheVariants as cluster_ref
 use Rattle.geo_base.specs.declared.position.Position.{Position}
 use Rattle.geo_base.specs.Broker.{Site}
 use Rattle.geo_base.specs.FrameSizes.{source_size}
@@ -69,14 +69,14 @@ stored_most own origin false = omega arith
 entry_most : (h : Site) (e : Entry) → IsStorable h e → entry_size h.clusters e ≤ 5243904
 entry_most h e is = omega (arith, is.size, stored_most h.own e.ident.origin (e.ident.origin == h.own))
 
-known_most : (h : Site) (x : ℕ) → IsSite h → source_size h.clusters (Some (place.Known x)) ≤ 36
+known_most : (h : Site) (x : ℕ) → IsSite h → source_size h.clusters (Some (cluster_ref.Known x)) ≤ 36
 known_most h x site = omega (arith, bytes_most 5 (length (slice_index_or h.clusters x [])), name_most h.clusters x site.names)
 
-source_most : (h : Site) (x : ℕ) (b : Bool) → IsSite h → source_size h.clusters (if b then None else Some (place.Known x)) ≤ 36
+source_most : (h : Site) (x : ℕ) (b : Bool) → IsSite h → source_size h.clusters (if b then None else Some (cluster_ref.Known x)) ≤ 36
 source_most h x true site = omega arith
 source_most h x false site = known_most h x site
 
-pub send_writable : (h : Site) (id seq : ℕ) (e : Entry) → IsSite h → IsStorable h e → IsWritable h.clusters (frame.Send id seq (Some (place.Known h.own)) e)
+pub send_writable : (h : Site) (id seq : ℕ) (e : Entry) → IsSite h → IsStorable h e → IsWritable h.clusters (frame.Send id seq (Some (cluster_ref.Known h.own)) e)
 send_writable h id seq e site is = record {
   readable = refl;
   rest = is.read.rest;

@@ -4,14 +4,14 @@ use Rattle.std.specs.Prelude.{◌==◌, ◌&&◌, ◌||◌, not, nat_lt, max, if
 use Rattle.std.specs.List.{AllByRecursion}
 use Rattle.std.proofs.lemmas.Bool.Decides.{nat_tests}
 use Rattle.geo_base.specs.declared.entry.Entry.{Entry}
-use Rattle.geo_base.specs.declared.marker.Place.TheVariants as place
+use Rattle.geo_base.specs.declared.marker.ClusterRef.TheVariants as cluster_ref
 use Rattle.geo_base.specs.declared.position.Position.{Position}
 use Rattle.geo_base.specs.declared.snapshot.CachedSnapshot.{CachedSnapshot}
 use Rattle.geo_base.specs.declared.snapshot.Cut.{Cut}
 use Rattle.geo_base.specs.declared.write.Write.{Write}
 use Rattle.geo_base.specs.declared.write.Write.TheVariants as write
 use Rattle.geo_base.specs.Broker.{Broker, Site, written}
-use Rattle.geo_base.specs.Builder.{named_from}
+use Rattle.geo_base.specs.SnapshotBuilder.{named_from}
 use Rattle.geo_base.specs.Cache.{any_passed, last_passed}
 use Rattle.geo_base.specs.Cursor.{below, mark, with_indexes}
 use Rattle.geo_base.specs.Entry.{is_own_marker, marker_producer}
@@ -20,7 +20,7 @@ use Rattle.geo_base.specs.Sizes.{cluster_position_size, cluster_positions, posit
 use Rattle.geo_base.specs.Storing.{appending_update, cursor_write, update_marker}
 use Rattle.geo_base.specs.Subscription.{Subscription}
 use Rattle.geo_base.specs.Topic.{accepts, next_marker}
-use Rattle.geo_base.specs.Updating.{passed_over}
+use Rattle.geo_base.specs.Updating.{updated_indexes}
 use Rattle.frame_values.proofs.Entries.{no_rest}
 use Rattle.broker_subs.specs.Steps.{SubWriteFits, acks_needed, machine_sub_write, sub_written}
 use Rattle.broker_subs.specs.Table.{names_of, room_at, sub_at}
@@ -29,8 +29,8 @@ use Rattle.broker_subs.specs.declared.writing.SubWrite.TheVariants as sub_write
 use Rattle.broker_state.specs.Fits.{AllWritesFit, WritesNamed, all_names_after}
 use Rattle.broker_state.specs.Room.{Room, WritesHaveRoom}
 use Rattle.broker_state.specs.Writes.{machine_write}
-use Rattle.broker_state.specs.declared.write.BookWrite.{BookWrite}
-use Rattle.broker_state.specs.declared.write.BookWrite.TheVariants as book_write
+use Rattle.broker_state.specs.declared.write.StateWrite.{StateWrite}
+use Rattle.broker_state.specs.declared.write.StateWrite.TheVariants as state_write
 use Rattle.broker_state.specs.Site.{IsNameLong, IsSite}
 use Rattle.broker_plans.specs.Storable.{IsCutOf, IsSnapshotOf, IsStorable, WritesStorable}
 use Rattle.broker_plans.specs.Updates.{IsAppend, cursor_writes, update_after, update_at, update_write, with_update}
@@ -63,9 +63,9 @@ steps_of h b s (sub_write.Acks is) cache =
     ap (λ (ws : List Write). write.Acks s.name is ∷ ws) (update_steps h b s.name s.name b.entries (if s.replicated then last_passed (mark (with_indexes s.cursor is)) cache else None))
 steps_of h b s (sub_write.AckTo i) cache =
     ap (λ (ws : List Write). write.Acks s.name (below (i + 1)) ∷ ws) (update_steps h b s.name s.name b.entries (if s.replicated then last_passed (mark (with_indexes s.cursor (below (i + 1)))) cache else None))
-steps_of h b s (sub_write.Passed i from runs) cache =
-    ap (λ (ws : List Write). write.Acks s.name (passed_over from 0 (i + 1) b.entries) ∷ ws)
-    (update_steps h b s.name s.name b.entries (if s.replicated then last_passed (mark (with_indexes s.cursor (passed_over from 0 (i + 1) b.entries))) cache else None))
+steps_of h b s (sub_write.UpdateTo i from runs) cache =
+    ap (λ (ws : List Write). write.Acks s.name (updated_indexes from 0 (i + 1) b.entries) ∷ ws)
+    (update_steps h b s.name s.name b.entries (if s.replicated then last_passed (mark (with_indexes s.cursor (updated_indexes from 0 (i + 1) b.entries))) cache else None))
 steps_of h b s (sub_write.Seek i) cache =
     ap (λ (ws : List Write). write.Seek s.name i ∷ ws) (update_steps h b s.name s.name b.entries (if s.replicated then last_passed (mark (below i)) cache else None))
 steps_of h b s (sub_write.Alter kind replicated) cache =
@@ -102,7 +102,7 @@ cursor_names h b k w cache ns =
 kept_entries : (per : ℕ) (b : Broker) (n : List ℕ) (es : List Entry) (w : SubWrite) → (written per b (machine_sub_write n es w)).entries ≡ b.entries
 kept_entries per b n es (sub_write.Acks is) = refl
 kept_entries per b n es (sub_write.AckTo i) = refl
-kept_entries per b n es (sub_write.Passed i from runs) = refl
+kept_entries per b n es (sub_write.UpdateTo i from runs) = refl
 kept_entries per b n es (sub_write.Seek i) = refl
 kept_entries per b n es (sub_write.Alter kind replicated) = refl
 
@@ -122,19 +122,19 @@ cursor_fits per h b n k w cache fits =
 
 -- ---- in memory that is there
 
-update_room : (w : SubWrite) (o : Option BookWrite) (room : Room) (k : ℕ) → IfSome o IsAppend → acks_needed w ≤ (room_at room.subs k).acks
+update_room : (w : SubWrite) (o : Option StateWrite) (room : Room) (k : ℕ) → IfSome o IsAppend → acks_needed w ≤ (room_at room.subs k).acks
     → (is_some o ≡ true → 1 ≤ room.entries) → (is_some o ≡ true → 1 ≤ room.streams) → WritesHaveRoom room k (cursor_writes w o)
-update_room w None room k is acks entries streams = record { entries = omega arith; streams = omega arith; places = omega arith; acks = (acks, tt); senders = omega arith }
-update_room w (Some (book_write.Append e stream)) room k is acks entries streams =
-    record { entries = entries refl; streams = streams refl; places = omega arith; acks = (acks, (tt, tt)); senders = omega arith }
-update_room w (Some (book_write.Create s latest)) room k is acks entries streams = absurd is
-update_room w (Some book_write.Delete) room k is acks entries streams = absurd is
-update_room w (Some (book_write.Sub v)) room k is acks entries streams = absurd is
-update_room w (Some (book_write.SenderAck y i)) room k is acks entries streams = absurd is
-update_room w (Some (book_write.SessionNumber y session)) room k is acks entries streams = absurd is
-update_room w (Some book_write.Ledger) room k is acks entries streams = absurd is
+update_room w None room k is acks entries streams = record { entries = omega arith; streams = omega arith; places = omega arith; acks = (acks, tt); replicators = omega arith }
+update_room w (Some (state_write.Append e stream)) room k is acks entries streams =
+    record { entries = entries refl; streams = streams refl; places = omega arith; acks = (acks, (tt, tt)); replicators = omega arith }
+update_room w (Some (state_write.Create s latest)) room k is acks entries streams = absurd is
+update_room w (Some state_write.Delete) room k is acks entries streams = absurd is
+update_room w (Some (state_write.Sub v)) room k is acks entries streams = absurd is
+update_room w (Some (state_write.ReplicatorAck y i)) room k is acks entries streams = absurd is
+update_room w (Some (state_write.SessionNumber y session)) room k is acks entries streams = absurd is
+update_room w (Some state_write.Ledger) room k is acks entries streams = absurd is
 
-pub cursor_room : (w : SubWrite) (o : Option BookWrite) (room : Room) (k : ℕ) → IfSome o IsAppend → acks_needed w ≤ (room_at room.subs k).acks
+pub cursor_room : (w : SubWrite) (o : Option StateWrite) (room : Room) (k : ℕ) → IfSome o IsAppend → acks_needed w ≤ (room_at room.subs k).acks
     → (is_some o ≡ true → 1 ≤ room.entries) → (is_some o ≡ true → 1 ≤ room.streams) → WritesHaveRoom room k (cursor_writes w o)
 cursor_room w o room k is acks entries streams = update_room w o room k is acks entries streams
 
@@ -156,7 +156,7 @@ positions_most names field c (None ∷ ps) h = omega (arith, positions_most name
 positions_most names field c (Some p ∷ ps) h =
     omega (
       arith,
-      bytes_most field (cluster_position_size names (record { cluster = place.Known c; position = p })),
+      bytes_most field (cluster_position_size names (record { cluster = cluster_ref.Known c; position = p })),
       bytes_most 1 (length (slice_index_or names c [])),
       name_most names c h,
       bytes_most 2 (position_size p),
@@ -206,7 +206,7 @@ short_name n is = grind (arith, nat_tests)
 behind : (h : Site) (n : List ℕ) (es : List Entry) (w : SubWrite) (ws : List Write) → WritesStorable h ws → WritesStorable h (machine_sub_write n es w ∷ ws)
 behind h n es (sub_write.Acks is) ws all = all
 behind h n es (sub_write.AckTo i) ws all = all
-behind h n es (sub_write.Passed i from runs) ws all = all
+behind h n es (sub_write.UpdateTo i from runs) ws all = all
 behind h n es (sub_write.Seek i) ws all = all
 behind h n es (sub_write.Alter kind replicated) ws all = all
 
@@ -220,7 +220,7 @@ pub cursor_stored : (h : Site) (b : Broker) (s : Subscription) (es : List Entry)
     → WritesStorable h (cursor_write h b s (machine_sub_write s.name es w))
 cursor_stored h b s es (sub_write.Acks is) site named all = after_stored h b s (mark (with_indexes s.cursor is)) s.cache site named all
 cursor_stored h b s es (sub_write.AckTo i) site named all = after_stored h b s (mark (with_indexes s.cursor (below (i + 1)))) s.cache site named all
-cursor_stored h b s es (sub_write.Passed i from runs) site named all = after_stored h b s (mark (with_indexes s.cursor (passed_over from 0 (i + 1) es))) s.cache site named all
+cursor_stored h b s es (sub_write.UpdateTo i from runs) site named all = after_stored h b s (mark (with_indexes s.cursor (updated_indexes from 0 (i + 1) es))) s.cache site named all
 cursor_stored h b s es (sub_write.Seek i) site named all = after_stored h b s (mark (below i)) s.cache site named all
 cursor_stored h b s es (sub_write.Alter kind replicated) site named all = after_stored h b s (mark s.cursor) s.cache site named all
 

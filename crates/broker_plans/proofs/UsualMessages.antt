@@ -10,8 +10,8 @@ use Rattle.geo_base.specs.Broker.{Site}
 use Rattle.geo_base.specs.Sizes.{entry_size, number_field, optional_text, tag_size, text_field}
 use Rattle.frame_values.proofs.Entries.{no_rest}
 use Rattle.pulsar_frames.specs.declared.view.MessageView.{MessageView}
-use Rattle.broker_state.specs.Plan.{PlanBook, quiet_book}
-use Rattle.broker_state.specs.declared.write.BookWrite.TheVariants as book_write
+use Rattle.broker_state.specs.Plan.{PlanView, quiet_view}
+use Rattle.broker_state.specs.declared.write.StateWrite.TheVariants as state_write
 use Rattle.broker_plans.specs.Storable.{IsStorable, most_stored}
 use Rattle.broker_plans.specs.Updates.{appending}
 use Rattle.broker_plans.specs.Usual.{text_length}
@@ -72,10 +72,10 @@ message_storable h x m few = record { read = record { rest = no_rest; marker = t
 
 -- ---- the entry that the code makes
 
-pub appended : (x : ℕ) (m : MessageView) (e : Entry) (s : Stream) (q r : PlanBook) → e ≡ entry_viewed x m → s ≡ stream_of (entry_viewed x m).ident
-    → r ≡ record q { writes = q.writes ++ book_write.Append e s ∷ [] } → r ≡ record q { writes = q.writes ++ appending (entry_viewed x m) ∷ [] }
+pub appended : (x : ℕ) (m : MessageView) (e : Entry) (s : Stream) (q r : PlanView) → e ≡ entry_viewed x m → s ≡ stream_of (entry_viewed x m).ident
+    → r ≡ record q { writes = q.writes ++ state_write.Append e s ∷ [] } → r ≡ record q { writes = q.writes ++ appending (entry_viewed x m) ∷ [] }
 appended x m e s q r viewed stream is = is ∙ rw (viewed, stream) refl
 
 -- the plan that stores it
-pub stores_message : (e : Entry) (q p : PlanBook) → q ≡ quiet_book 0 → p ≡ record q { writes = q.writes ++ appending e ∷ [] } → p ≡ stores e
+pub stores_message : (e : Entry) (q p : PlanView) → q ≡ quiet_view 0 → p ≡ record q { writes = q.writes ++ appending e ∷ [] } → p ≡ stores e
 stores_message e q p quiet is = is ∙ rw quiet refl

@@ -6,7 +6,7 @@ use Rattle.geo_base.specs.Broker.{Broker, Site}
 use Rattle.geo_base.specs.Plan.{Plan}
 use Rattle.geo_base.specs.Topic.{next_marker}
 use Rattle.broker_state.specs.Fits.{PlanFits}
-use Rattle.broker_state.specs.Plan.{PlanBook, plan_in}
+use Rattle.broker_state.specs.Plan.{PlanView, plan_in}
 use Rattle.broker_plans.specs.Storable.{IsWritable, PlanStorable}
 use Rattle.frame_values.specs.Coded.{IsWritten}
 
@@ -37,14 +37,14 @@ unsent p = record p { sent = [] }
 
 -- A prepared event of the broker b is a plan of the machine: the same writes and changes, packets that say what it sends, steps
 -- that the broker can do, and what it adds to what is kept can be written again.
-pub record IsPrepared (h : Site) (b : Broker) (plan : Plan) (p : PlanBook) : Type 0 where
+pub record IsPrepared (h : Site) (b : Broker) (plan : Plan) (p : PlanView) : Type 0 where
   pub steps : plan_in b p ≡ unsent plan
   pub sent : ArePackets h.clusters plan.sent p.sent
   pub fits : PlanFits h.per_ledger b p
   pub stored : PlanStorable h plan
 
--- an event that sends one more packet behind all that it does
-pub record AlsoSends (names : List (List ℕ)) (o : Out) (old new : PlanBook) : Type 0 where
+-- an event that sends one more packet after all that it does
+pub record AlsoSends (names : List (List ℕ)) (o : Out) (old new : PlanView) : Type 0 where
   pub packet : WireOut
   pub with : new ≡ record old { sent = old.sent ++ packet ∷ [] }
   pub written : IsPacket names o packet

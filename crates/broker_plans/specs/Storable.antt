@@ -10,7 +10,7 @@ use Rattle.geo_base.specs.declared.frame.Frame.{Frame}
 use Rattle.geo_base.specs.declared.frame.Frame.TheVariants as frame
 use Rattle.geo_base.specs.declared.marker.Marker.{Marker}
 use Rattle.geo_base.specs.declared.marker.Marker.TheVariants as marker
-use Rattle.geo_base.specs.declared.snapshot.Builder.{Builder}
+use Rattle.geo_base.specs.declared.snapshot.SnapshotBuilder.{SnapshotBuilder}
 use Rattle.geo_base.specs.declared.snapshot.CachedSnapshot.{CachedSnapshot}
 use Rattle.geo_base.specs.declared.snapshot.Cut.{Cut}
 use Rattle.geo_base.specs.declared.write.Write.{Write}
@@ -75,7 +75,7 @@ IsSnapshotOf h c = IsCutOf h c.cut
 abbrev pub most_id : ℕ
 most_id = 64
 
-pub record IsBuilderOf (h : Site) (u : Builder) : Type 0 where
+pub record IsBuilderOf (h : Site) (u : SnapshotBuilder) : Type 0 where
   pub id : length u.id ≤ most_id
   pub cut : IsCutOf h u.cut
 

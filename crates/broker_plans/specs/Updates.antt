@@ -11,34 +11,34 @@ use Rattle.geo_base.specs.Storing.{update_marker}
 use Rattle.broker_subs.specs.Steps.{sub_written}
 use Rattle.broker_subs.specs.Table.{sub_at}
 use Rattle.broker_subs.specs.declared.writing.SubWrite.{SubWrite}
-use Rattle.broker_state.specs.declared.write.BookWrite.{BookWrite}
-use Rattle.broker_state.specs.declared.write.BookWrite.TheVariants as book_write
+use Rattle.broker_state.specs.declared.write.StateWrite.{StateWrite}
+use Rattle.broker_state.specs.declared.write.StateWrite.TheVariants as state_write
 
 -- an entry is stored
-abbrev pub appending : Entry → BookWrite
-appending e = book_write.Append e (stream_of e.ident)
+abbrev pub appending : Entry → StateWrite
+appending e = state_write.Append e (stream_of e.ident)
 
-abbrev pub update_write : Site → Broker → List ℕ → Option Cut → Option BookWrite
+abbrev pub update_write : Site → Broker → List ℕ → Option Cut → Option StateWrite
 update_write h b n None = None
 update_write h b n (Some cut) = Some (appending (update_marker h b n cut))
 
 -- the update of a subscription whose mark-delete has come so far, with these snapshots
-abbrev pub update_at : Site → Broker → List ℕ → Bool → ℕ → List CachedSnapshot → Option BookWrite
+abbrev pub update_at : Site → Broker → List ℕ → Bool → ℕ → List CachedSnapshot → Option StateWrite
 update_at h b n replicated mark cache = update_write h b n (if replicated then last_passed mark cache else None)
 
 -- a write that stores an entry
-abbrev pub IsAppend : BookWrite → Type 0
-IsAppend (book_write.Append e stream) = ⊤
+abbrev pub IsAppend : StateWrite → Type 0
+IsAppend (state_write.Append e stream) = ⊤
 IsAppend w = ⊥
 
-abbrev pub with_update : Option BookWrite → List BookWrite
+abbrev pub with_update : Option StateWrite → List StateWrite
 with_update None = []
 with_update (Some w) = w ∷ []
 
 -- the update that follows a write of the subscription at place k, which has these snapshots then
-abbrev pub update_after : Site → Broker → ℕ → SubWrite → List CachedSnapshot → Option BookWrite
+abbrev pub update_after : Site → Broker → ℕ → SubWrite → List CachedSnapshot → Option StateWrite
 update_after h b k w cache = update_at h b (sub_at b.subs k).name (sub_at b.subs k).replicated (mark (sub_written b.entries w (sub_at b.subs k)).cursor) cache
 
 -- a write of its cursor with what follows it
-abbrev pub cursor_writes : SubWrite → Option BookWrite → List BookWrite
-cursor_writes w o = book_write.Sub w ∷ with_update o
+abbrev pub cursor_writes : SubWrite → Option StateWrite → List StateWrite
+cursor_writes w o = state_write.Sub w ∷ with_update o

@@ -13,9 +13,9 @@ mod receiving;
 mod updating;
 mod usual;
 
-pub use finding::{place_consumed, place_named, sub_at};
+pub use finding::{sub_at, sub_index_consumed, sub_index_named};
 pub use marking::{appending, own_marker};
 pub use packet::{message_text, send_text, text};
-pub use receiving::{NOWHERE, also_send, storing};
+pub use receiving::{NO_POSITION, also_send, storing};
 pub use updating::{begin_write, update_after};
 pub use usual::{Answered, Came, also_receipt, is_small, storing_message};

@@ -4,7 +4,7 @@ ghost use Rattle.geo_base.specs.Storing.{own_marker};
 ghost use Rattle.broker_plans.specs.Prepared.{MarkerFits};
 ghost use Rattle.broker_plans.specs.Updates.{appending};
 
-use broker_state::{BookWrite, BrokerState};
+use broker_state::{BrokerState, StateWrite};
 use durable_parts::MARKER_PRODUCER;
 use geo_base::{
     Blob, BoxedMarker, Content, Entry, Ident, Marker, Memory, Metadata, ProducerName, Sequence,
@@ -16,16 +16,16 @@ use topic_store::Stream;
 /// A marker that the own cluster writes next, for targets, which have these names.
 pub fn own_marker(
     alloc: Global,
-    book: &BrokerState,
+    state: &BrokerState,
     marker: Marker,
     to: Targets,
     names: Sequence<Text>,
 ) -> Result<Entry, Memory>
-    requires number { MarkerFits book.now.site book.now.broker }
-    ensures { IfOk result (λ e. e ≡ own_marker book.now.site book.now.broker marker to names) }
+    requires number { MarkerFits state.now.site state.now.broker }
+    ensures { IfOk result (λ e. e ≡ own_marker state.now.site state.now.broker marker to names) }
 {
-    let origin = book.site().own();
-    let seq = book.next_marker();
+    let origin = state.site().own();
+    let seq = state.next_marker();
     let marker = BoxedMarker::new(alloc, marker)?;
     let rest = Blob::new(alloc);
     let meta = Metadata::new(alloc, 0, None, names, rest)?;
@@ -45,9 +45,9 @@ pub fn own_marker(
 }
 
 /// The write that stores an entry.
-pub fn appending(alloc: Global, entry: Entry) -> Result<BookWrite, Memory>
+pub fn appending(alloc: Global, entry: Entry) -> Result<StateWrite, Memory>
     ensures { IfOk result (λ w. w ≡ appending entry) }
 {
     let stream = Stream::of(alloc, &entry.ident)?;
-    Ok(BookWrite::Append { entry, stream })
+    Ok(StateWrite::Append { entry, stream })
 }

@@ -1,4 +1,4 @@
-//! An entry that came: it is stored, or is a duplicate. And packets behind what an event does.
+//! An entry that came: it is stored, or is a duplicate. And packets after what an event does.
 ghost use Rattle.std.specs.Prelude.{◌≡◌, ◌≤◌, true, false, [], Some, IfNone, IfOk, IfSome, OnErr, OnOk};
 ghost use Rattle.topic_store.specs.Table.{stream_of};
 ghost use Rattle.geo_base.specs.Plan.{plan_of};
@@ -14,13 +14,13 @@ ghost use Rattle.broker_plans.specs.Prepared.{AlsoSends, IsPrepared};
 ghost use Rattle.broker_plans.specs.Storable.{IsStorable};
 
 use crate::packet::text;
-use broker_state::{BookWrite, BrokerState, Plan};
+use broker_state::{BrokerState, Plan, StateWrite};
 use geo_base::{Entry, EntryStore, Frame, Ident, Memory, Peer, Position, WireOut};
 use std::alloc::Global;
 use topic_store::Stream;
 
-/// The position of what stands nowhere, -1:-1 as 64-bit numbers: the receipt of a duplicate names it, as those of Pulsar's brokers do.
-pub const NOWHERE: Position = Position {
+/// The position of what stands no_position, -1:-1 as 64-bit numbers: the receipt of a duplicate names it, as those of Pulsar's brokers do.
+pub const NO_POSITION: Position = Position {
     ledger: u64::MAX,
     entry: u64::MAX,
 };
@@ -29,27 +29,27 @@ pub const NOWHERE: Position = Position {
 /// wanting, the plan has no step.
 pub fn storing(
     alloc: Global,
-    book: &mut BrokerState,
+    state: &mut BrokerState,
     entry: Entry,
     plan: &mut Plan,
 ) -> Result<Position, Memory>
-    requires storable { IsStorable book.old.site entry }
+    requires storable { IsStorable state.old.site entry }
     requires empty { IsEmptyPlan plan.old }
-    ensures prepared { OnOk result (IsPrepared book.old.site book.old.broker (plan_of (storing book.old.broker entry) [] []) plan.new) }
-    ensures position { IfOk result (λ p. Some p ≡ receipt_position book.old.site.per_ledger book.old.broker entry) }
-    ensures room { OnOk result (HasRoom book.new.room plan.new) }
-    ensures kept { SameState book.old book.new }
+    ensures prepared { OnOk result (IsPrepared state.old.site state.old.broker (plan_of (storing state.old.broker entry) [] []) plan.new) }
+    ensures position { IfOk result (λ p. Some p ≡ receipt_position state.old.site.per_ledger state.old.broker entry) }
+    ensures room { OnOk result (HasRoom state.new.room plan.new) }
+    ensures kept { SameState state.old state.new }
     ensures err { OnErr result ((plan.new.writes ≡ []) × (plan.new.changes ≡ []) × (plan.new.sent ≡ [])) }
 {
     plan.begin(0);
-    match new_stream(alloc, book, &entry.ident) {
+    match new_stream(alloc, state, &entry.ident) {
         Ok(Some(stream)) => {
-            plan.write(BookWrite::Append { entry, stream })?;
-            Ok(book.store().next())
+            plan.write(StateWrite::Append { entry, stream })?;
+            Ok(state.store().next())
         }
         Ok(None) => {
             drop(entry);
-            Ok(NOWHERE)
+            Ok(NO_POSITION)
         }
         Err(memory) => {
             drop(entry);
@@ -61,25 +61,25 @@ pub fn storing(
 /// The stream of an entry that came, and room for the entry; `None` where it is a duplicate.
 fn new_stream(
     alloc: Global,
-    book: &mut BrokerState,
+    state: &mut BrokerState,
     ident: &Ident,
 ) -> Result<Option<Stream>, Memory>
-    ensures new { IfOk result (λ o. IfSome o (λ s. (accepts book.old.broker.entries ident.now ≡ true) × (s ≡ stream_of ident.now) × (1 ≤ book.new.room.entries) × (1 ≤ book.new.room.streams))) }
-    ensures duplicate { IfOk result (λ o. IfNone o (accepts book.old.broker.entries ident.now ≡ false)) }
-    ensures kept { SameState book.old book.new }
+    ensures new { IfOk result (λ o. IfSome o (λ s. (accepts state.old.broker.entries ident.now ≡ true) × (s ≡ stream_of ident.now) × (1 ≤ state.new.room.entries) × (1 ≤ state.new.room.streams))) }
+    ensures duplicate { IfOk result (λ o. IfNone o (accepts state.old.broker.entries ident.now ≡ false)) }
+    ensures kept { SameState state.old state.new }
 {
     let stream = Stream::of(alloc, ident)?;
-    if !book.accepts(&stream, ident.seq) {
+    if !state.accepts(&stream, ident.seq) {
         return Ok(None);
     }
-    book.reserve_entries(1)?;
+    state.reserve_entries(1)?;
     Ok(Some(stream))
 }
 
-/// An event that sends, behind all that it does, a packet without an entry; unchanged where memory is wanting.
+/// An event that sends, after all that it does, a packet without an entry; unchanged where memory is wanting.
 pub fn also_send(
     alloc: Global,
-    book: &BrokerState,
+    state: &BrokerState,
     plan: &mut Plan,
     to: Peer,
     session: u64,
@@ -87,10 +87,10 @@ pub fn also_send(
 ) -> Result<(), Memory>
     requires simple { carries_entry frame.now ≡ false }
     requires readable { is_readable frame.now ≡ true }
-    requires small { IsSmall book.now.site.clusters frame.now }
-    ensures ok { OnOk result (AlsoSends book.now.site.clusters (record { to = to; session = session; frame = frame.now }) plan.old plan.new) }
+    requires small { IsSmall state.now.site.clusters frame.now }
+    ensures ok { OnOk result (AlsoSends state.now.site.clusters (record { to = to; session = session; frame = frame.now }) plan.old plan.new) }
     ensures err { OnErr result (plan.new ≡ plan.old) }
 {
-    let frame = text(alloc, book, frame)?;
+    let frame = text(alloc, state, frame)?;
     plan.send(WireOut { to, session, frame })
 }

@@ -2,70 +2,70 @@
 ghost use Rattle.std.specs.Prelude.{◌≡◌, ◌+◌, ◌<◌, ◌≤◌, true, is_some, length, IfOk, IfSome, OnErr, OnOk, []};
 ghost use Rattle.std.specs.List.{All};
 ghost use Rattle.geo_base.specs.Cursor.{below, mark, with_indexes};
-ghost use Rattle.geo_base.specs.Updating.{passed_over};
+ghost use Rattle.geo_base.specs.Updating.{updated_indexes};
 ghost use Rattle.broker_subs.specs.Steps.{SubWriteFits, acks_needed, sub_written};
 ghost use Rattle.broker_subs.specs.Table.{room_at, sub_at};
 ghost use Rattle.broker_state.specs.State.{SameState};
-ghost use Rattle.broker_state.specs.Plan.{IsEmptyPlan, quiet_book};
+ghost use Rattle.broker_state.specs.Plan.{IsEmptyPlan, quiet_view};
 ghost use Rattle.broker_state.specs.Room.{WritesHaveRoom};
 ghost use Rattle.broker_plans.specs.Prepared.{MarkerFits};
 ghost use Rattle.broker_plans.specs.Updates.{IsAppend, cursor_writes, update_after, update_at};
 
 use crate::finding::sub_at;
 use crate::marking::{appending, own_marker};
-use broker_state::{BookWrite, BrokerState, Plan};
+use broker_state::{BrokerState, Plan, StateWrite};
 use broker_subs::{Sub, SubWrite};
 use cursor_acks::Cursor;
 use geo_base::{EntryStore, Memory, Sequence, SubName, Targets};
-use snapshots::SnapshotCache;
+use replicated_subs::SnapshotCache;
 use std::alloc::Global;
 
 /// The update that follows a write of the cursor of the subscription at a place, which has these snapshots then. The cursor is
 /// copied, to see how far it comes, only where there is a snapshot that it may pass.
 pub fn update_after(
     alloc: Global,
-    book: &BrokerState,
-    place: usize,
+    state: &BrokerState,
+    sub_index: usize,
     write: &SubWrite,
     cache: &SnapshotCache,
-) -> Result<Option<BookWrite>, Memory>
-    requires number { MarkerFits book.now.site book.now.broker }
-    requires place { place < length book.now.broker.subs }
-    requires fits { SubWriteFits book.now.broker.entries (sub_at book.now.broker.subs place) write.now }
-    ensures { IfOk result (λ o. o ≡ update_after book.now.site book.now.broker place write.now cache.now) }
+) -> Result<Option<StateWrite>, Memory>
+    requires number { MarkerFits state.now.site state.now.broker }
+    requires sub_index { sub_index < length state.now.broker.subs }
+    requires fits { SubWriteFits state.now.broker.entries (sub_at state.now.broker.subs sub_index) write.now }
+    ensures { IfOk result (λ o. o ≡ update_after state.now.site state.now.broker sub_index write.now cache.now) }
 {
-    let sub = sub_at(book, place);
+    let sub = sub_at(state, sub_index);
     if !sub.is_replicated() || cache.is_empty() {
         return Ok(None);
     }
-    let mark = mark_after(alloc, sub, write, book.store())?;
-    update_at(alloc, book, sub.name(), mark, cache)
+    let mark = mark_after(alloc, sub, write, state.store())?;
+    update_at(alloc, state, sub.name(), mark, cache)
 }
 
 /// An event that begins with a write of the cursor of the subscription at a place and the update that follows it, with room for
 /// them, and for so many consumers that join or indexes that are given there. Where memory is wanting, the plan has no change and no packet.
 #[tactic(auto, using(crate::proofs::Updates::cursor_room))]
 pub fn begin_write(
-    book: &mut BrokerState,
-    place: usize,
+    state: &mut BrokerState,
+    sub_index: usize,
     room: usize,
     write: SubWrite,
-    update: Option<BookWrite>,
+    update: Option<StateWrite>,
     plan: &mut Plan,
 ) -> Result<(), Memory>
-    requires place { place < length book.old.broker.subs }
+    requires sub_index { sub_index < length state.old.broker.subs }
     requires update { IfSome update IsAppend }
     requires empty { IsEmptyPlan plan.old }
-    ensures prepared { OnOk result (plan.new ≡ record (quiet_book place) { writes = cursor_writes write update }) }
-    ensures kept { SameState book.old book.new }
-    ensures writes { OnOk result (WritesHaveRoom book.new.room place (cursor_writes write update)) }
-    ensures given { OnOk result ((room_at book.new.room.subs place).room ≡ room) }
-    ensures senders { book.new.room.senders ≡ book.old.room.senders }
+    ensures prepared { OnOk result (plan.new ≡ record (quiet_view sub_index) { writes = cursor_writes write update }) }
+    ensures kept { SameState state.old state.new }
+    ensures writes { OnOk result (WritesHaveRoom state.new.room sub_index (cursor_writes write update)) }
+    ensures given { OnOk result ((room_at state.new.room.subs sub_index).room ≡ room) }
+    ensures replicators { state.new.room.replicators ≡ state.old.room.replicators }
     ensures err { OnErr result ((plan.new.changes ≡ []) × (plan.new.sent ≡ [])) }
 {
     let acks = acks_needed(&write);
     let entries = entries_needed(&update);
-    match reserve(book, place, room, acks, entries) {
+    match reserve(state, sub_index, room, acks, entries) {
         Ok(()) => {}
         Err(memory) => {
             drop(write);
@@ -73,8 +73,8 @@ pub fn begin_write(
             return Err(memory);
         }
     }
-    plan.begin(place);
-    match plan.write(BookWrite::Sub(write)) {
+    plan.begin(sub_index);
+    match plan.write(StateWrite::Sub(write)) {
         Ok(()) => {}
         Err(memory) => {
             drop(update);
@@ -89,26 +89,26 @@ pub fn begin_write(
 
 /// Makes room at the subscription at a place, and for so many entries.
 fn reserve(
-    book: &mut BrokerState,
-    place: usize,
+    state: &mut BrokerState,
+    sub_index: usize,
     room: usize,
     acks: usize,
     entries: usize,
 ) -> Result<(), Memory>
-    requires place { place < length book.old.broker.subs }
-    ensures kept { SameState book.old book.new }
-    ensures given { OnOk result ((room_at book.new.room.subs place).room ≡ room) }
-    ensures acks { OnOk result (acks ≤ (room_at book.new.room.subs place).acks) }
-    ensures entries { OnOk result (entries ≤ book.new.room.entries) }
-    ensures streams { OnOk result (entries ≤ book.new.room.streams) }
-    ensures senders { book.new.room.senders ≡ book.old.room.senders }
+    requires sub_index { sub_index < length state.old.broker.subs }
+    ensures kept { SameState state.old state.new }
+    ensures given { OnOk result ((room_at state.new.room.subs sub_index).room ≡ room) }
+    ensures acks { OnOk result (acks ≤ (room_at state.new.room.subs sub_index).acks) }
+    ensures entries { OnOk result (entries ≤ state.new.room.entries) }
+    ensures streams { OnOk result (entries ≤ state.new.room.streams) }
+    ensures replicators { state.new.room.replicators ≡ state.old.room.replicators }
 {
-    book.reserve_sub(place, room, acks)?;
-    book.reserve_entries(entries)
+    state.reserve_sub(sub_index, room, acks)?;
+    state.reserve_entries(entries)
 }
 
 /// For how many entries an update needs room.
-fn entries_needed(update: &Option<BookWrite>) -> usize
+fn entries_needed(update: &Option<StateWrite>) -> usize
     ensures { is_some update.now ≡ true → 1 ≤ result }
 {
     if update.is_some() { 1 } else { 0 }
@@ -121,7 +121,7 @@ fn acks_needed(write: &SubWrite) -> usize
     match write {
         SubWrite::Acks(indexes) => indexes.len(),
         SubWrite::AckTo(_) | SubWrite::Seek(_) => 1,
-        SubWrite::Passed { runs, .. } => *runs,
+        SubWrite::UpdateTo { runs, .. } => *runs,
         SubWrite::Alter { .. } => 0,
     }
 }
@@ -130,20 +130,20 @@ fn acks_needed(write: &SubWrite) -> usize
 /// passes one of these snapshots.
 fn update_at(
     alloc: Global,
-    book: &BrokerState,
+    state: &BrokerState,
     name: &SubName,
     mark: u64,
     cache: &SnapshotCache,
-) -> Result<Option<BookWrite>, Memory>
-    requires number { MarkerFits book.now.site book.now.broker }
-    ensures { IfOk result (λ o. o ≡ update_at book.now.site book.now.broker name.now true mark cache.now) }
+) -> Result<Option<StateWrite>, Memory>
+    requires number { MarkerFits state.now.site state.now.broker }
+    ensures { IfOk result (λ o. o ≡ update_at state.now.site state.now.broker name.now true mark cache.now) }
 {
     match cache.passed(mark) {
         None => Ok(None),
         Some(cut) => {
-            let marker = sub_update::make(alloc, name, cut)?;
+            let marker = replicated_subs::make(alloc, name, cut)?;
             let names = Sequence::new(alloc);
-            let entry = own_marker(alloc, book, marker, Targets::All, names)?;
+            let entry = own_marker(alloc, state, marker, Targets::All, names)?;
             Ok(Some(appending(alloc, entry)?))
         }
     }
@@ -162,7 +162,7 @@ fn mark_after<S: EntryStore>(
     match write {
         SubWrite::Acks(indexes) => mark_with_each(alloc, sub.cursor(), indexes.as_slice(), store),
         SubWrite::AckTo(index) => mark_with_all_to(alloc, sub.cursor(), *index, store),
-        SubWrite::Passed { index, from, .. } => {
+        SubWrite::UpdateTo { index, from, .. } => {
             mark_with_passed(alloc, sub.cursor(), *index, *from, store)
         }
         SubWrite::Seek(index) => Ok(Cursor::all(alloc, *index)?.mark_delete()),
@@ -218,11 +218,11 @@ fn mark_with_passed<S: EntryStore>(
     store: &S,
 ) -> Result<u64, Memory>
     requires { index < length (S.entries store.now) }
-    ensures { IfOk result (λ m. m ≡ mark (with_indexes cursor.now.indexes (passed_over from 0 (index + 1) (S.entries store.now)))) }
+    ensures { IfOk result (λ m. m ≡ mark (with_indexes cursor.now.indexes (updated_indexes from 0 (index + 1) (S.entries store.now)))) }
 {
     let mut with = cursor.copy(alloc)?;
-    with.reserve(sub_update::runs(&with, store, index, from))?;
-    match sub_update::apply(&mut with, store, index, from) {
+    with.reserve(replicated_subs::runs(&with, store, index, from))?;
+    match replicated_subs::apply(&mut with, store, index, from) {
         Ok(()) => Ok(with.mark_delete()),
         Err(_) => unreachable!(),
     }

@@ -14,8 +14,8 @@ ghost use Rattle.broker_plans.specs.Updates.{appending};
 ghost use Rattle.broker_plans.specs.Usual.{receipt_out, text_length};
 ghost use Rattle.frame_values.specs.Usual.{entry_viewed};
 
-use crate::receiving::NOWHERE;
-use broker_state::{BookWrite, BrokerState, Plan};
+use crate::receiving::NO_POSITION;
+use broker_state::{BrokerState, Plan, StateWrite};
 use frame_values::entry_of_message;
 use geo_base::limits::ENTRY_BYTES;
 use geo_base::{EntryStore, Memory, Peer, Position, ProducerName, WireOut};
@@ -76,26 +76,26 @@ fn text_len(text: Option<&str>) -> usize
 /// names.
 pub fn storing_message(
     alloc: Global,
-    book: &mut BrokerState,
+    state: &mut BrokerState,
     origin: u32,
     message: MessageView<'_>,
     plan: &mut Plan,
 ) -> Result<Position, Memory>
-    requires storable { IsStorable book.old.site (entry_viewed origin message) }
+    requires storable { IsStorable state.old.site (entry_viewed origin message) }
     requires empty { IsEmptyPlan plan.old }
-    ensures prepared { OnOk result (IsPrepared book.old.site book.old.broker (plan_of (storing book.old.broker (entry_viewed origin message.entry)) [] []) plan.new) }
-    ensures position { IfOk result (λ p. Some p ≡ receipt_position book.old.site.per_ledger book.old.broker (entry_viewed origin message.entry)) }
-    ensures room { OnOk result (HasRoom book.new.room plan.new) }
-    ensures kept { SameState book.old book.new }
+    ensures prepared { OnOk result (IsPrepared state.old.site state.old.broker (plan_of (storing state.old.broker (entry_viewed origin message.entry)) [] []) plan.new) }
+    ensures position { IfOk result (λ p. Some p ≡ receipt_position state.old.site.per_ledger state.old.broker (entry_viewed origin message.entry)) }
+    ensures room { OnOk result (HasRoom state.new.room plan.new) }
+    ensures kept { SameState state.old state.new }
 {
     let stream = stream_of(alloc, origin, message)?;
     plan.begin(0);
-    if !book.accepts(&stream, message.meta.seq) {
-        return Ok(NOWHERE);
+    if !state.accepts(&stream, message.meta.seq) {
+        return Ok(NO_POSITION);
     }
-    book.reserve_entries(1)?;
+    state.reserve_entries(1)?;
     append_message(alloc, origin, stream, message, plan)?;
-    Ok(book.store().next())
+    Ok(state.store().next())
 }
 
 /// The stream of a message of a cluster.
@@ -121,20 +121,20 @@ fn append_message(
     ensures { OnOk result (plan.new ≡ record plan.old { writes = plan.old.writes ++ appending (entry_viewed origin message.entry) ∷ [] }) }
 {
     let entry = entry_of_message(alloc, origin, message)?;
-    plan.write(BookWrite::Append { entry, stream })?;
+    plan.write(StateWrite::Append { entry, stream })?;
     Ok(())
 }
 
-/// An event that sends, behind all that it does, the receipt of a SEND.
+/// An event that sends, after all that it does, the receipt of a SEND.
 #[tactic(auto, using(frame_values::proofs::UsualValues::receipt_written))]
 pub fn also_receipt(
     alloc: Global,
-    book: &BrokerState,
+    state: &BrokerState,
     plan: &mut Plan,
     answered: Answered,
     position: Position,
 ) -> Result<(), Memory>
-    ensures { OnOk result (AlsoSends book.now.site.clusters (receipt_out answered position) plan.old plan.new) }
+    ensures { OnOk result (AlsoSends state.now.site.clusters (receipt_out answered position) plan.old plan.new) }
 {
     let Answered {
         to,

@@ -10,6 +10,7 @@ use Rattle.geo_base.specs.declared.entry.Entry.{Entry}
 use Rattle.geo_base.specs.Cursor.{backlog_from, has}
 use Rattle.geo_base.specs.Entry.{is_data}
 use Rattle.topic_store.specs.Messages.{is_message, messages_before}
+use Rattle.geo_base.proofs.Bools.{true_not_false}
 
 abbrev one : Bool → ℕ
 one b = if b then 1 else 0
@@ -31,12 +32,9 @@ left_same p q i [] h = refl
 left_same p q i (d ∷ ds) h =
     ap (λ (b : Bool). one (d && not b) + left_by p (i + 1) ds) (h i) ∙ ap (λ n. one (d && not (q i)) + n) (left_same p q (i + 1) ds h)
 
-both : true ≡ false → ⊥
-both e = absurd (cc)
-
 split_one : (d p q r : Bool) → q ≡ (p || r) → (r ≡ true → p ≡ false) → one (d && not p) ≡ one (d && not q) + one (d && not (not r))
 split_one false p q r e f = refl
-split_one true true q true e f = absurd (both (f refl))
+split_one true true q true e f = absurd (true_not_false (f refl))
 split_one true true q false e f = rw e refl
 split_one true false q true e f = rw e refl
 split_one true false q false e f = rw e refl
@@ -109,7 +107,7 @@ pub left_all : (i : ℕ) (es : List Entry) → left_by (λ j. false) i (flags es
 left_all i [] = refl
 left_all i (e ∷ es) = omega (arith, open_one (is_data e.content), left_all (i + 1) es, more e es (length es))
 
--- behind the last entry there is no more
+-- after the last entry there is no more
 pub capped : (es : List Entry) (k : ℕ) → messages_before es (min k (length es)) ≡ messages_before es k
 capped [] k = nothing (min k 0) ∙ sym (nothing k)
 capped (e ∷ es) zero =
@@ -125,7 +123,7 @@ or_swap true false = refl
 or_swap false true = refl
 or_swap false false = refl
 
--- a range covers nothing that one behind it covers
+-- a range covers nothing that one after it covers
 apart_behind : (r : IndexRange) (rs : List IndexRange) (j : ℕ) → AreApart (r ∷ rs) → lies_in r j ≡ true → covers rs j ≡ false
 apart_behind r rs j h here =
     let reached : j ≤ r.last = grind (arith, nat_tests, here) in

@@ -1,7 +1,6 @@
-pub mod Mapped
 pub mod Markers
-pub mod SenderTables
-pub mod SenderSteps
+pub mod ReplicatorTables
+pub mod ReplicatorSteps
 pub mod Steps
 pub mod Halts
 pub mod InTurn

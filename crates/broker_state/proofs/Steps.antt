@@ -17,14 +17,14 @@ use Rattle.broker_subs.specs.declared.writing.SubWrite.TheVariants as sub_write
 pub sub_written_is : (per : ℕ) (b : Broker) (n : List ℕ) (es : List Entry) (w : SubWrite) → written per b (machine_sub_write n es w) ≡ record b { subs = at_name n (sub_written es w) b.subs }
 sub_written_is per b n es (sub_write.Acks is) = refl
 sub_written_is per b n es (sub_write.AckTo i) = refl
-sub_written_is per b n es (sub_write.Passed i from runs) = refl
+sub_written_is per b n es (sub_write.UpdateTo i from runs) = refl
 sub_written_is per b n es (sub_write.Seek i) = refl
 sub_written_is per b n es (sub_write.Alter kind replicated) = refl
 
 pub sub_changed_is : (b : Broker) (n : List ℕ) (c : SubChange) → changed b (machine_sub_change n c) ≡ record b { subs = at_name n (sub_changed c) b.subs }
 sub_changed_is b n (sub_change.Attach k) = refl
 sub_changed_is b n (sub_change.Permit c permits) = refl
-sub_changed_is b n (sub_change.Passed i) = refl
+sub_changed_is b n (sub_change.Skipped i) = refl
 sub_changed_is b n (sub_change.Given i at) = refl
 sub_changed_is b n (sub_change.Cache snapshot) = refl
 sub_changed_is b n sub_change.Acked = refl

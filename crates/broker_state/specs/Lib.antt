@@ -1,5 +1,5 @@
 pub mod Site
-pub mod Senders
+pub mod Replicators
 pub mod Writes
 pub mod Plan
 pub mod Room

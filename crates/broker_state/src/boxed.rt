@@ -2,7 +2,7 @@
 ghost use Rattle.std.specs.Prelude.{◌≡◌, IfOk};
 
 use geo_base::Memory;
-use snapshots::Builder;
+use replicated_subs::SnapshotBuilder;
 use std::alloc::Global;
 use std::boxed::Box;
 use std::marker::Model;
@@ -10,20 +10,20 @@ use std::marker::Model;
 /// A snapshot that is being made, in memory of its own, so that a change is not as large as the largest of all. It is the snapshot.
 #[derive(Drop)]
 pub struct BoxedBuilder {
-    builder: Box<Builder>,
+    builder: Box<SnapshotBuilder>,
 }
 
 impl Model for BoxedBuilder {
-    ghost use Rattle.geo_base.specs.declared.snapshot.Builder.{Builder};
+    ghost use Rattle.geo_base.specs.declared.snapshot.SnapshotBuilder.{SnapshotBuilder};
 
-    ghost Value = { Builder };
+    ghost Value = { SnapshotBuilder };
 
     ghost view = { λ b. b.builder.value };
 }
 
 impl BoxedBuilder {
     /// A snapshot in memory of its own; an `Err` is want of it.
-    pub fn new(alloc: Global, builder: Builder) -> Result<BoxedBuilder, Memory>
+    pub fn new(alloc: Global, builder: SnapshotBuilder) -> Result<BoxedBuilder, Memory>
         ensures { IfOk result (λ b. b ≡ builder) }
     {
         let builder = Box::new(alloc, builder)?;
@@ -31,7 +31,7 @@ impl BoxedBuilder {
     }
 
     /// The snapshot itself; gives the memory back.
-    pub fn into_inner(self) -> Builder
+    pub fn into_inner(self) -> SnapshotBuilder
         ensures { result ≡ self }
     {
         Box::into_inner(self.builder)

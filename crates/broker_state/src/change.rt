@@ -6,7 +6,7 @@ use geo_base::Session;
 
 /// One change in memory, with all the memory that it takes. The subscription that it is of is the prepared event's.
 #[derive(Drop)]
-pub enum BookChange {
+pub enum StateChange {
     /// The session that is open on the forward link from a cluster.
     Receiver {
         source: u32,
@@ -23,7 +23,7 @@ pub enum BookChange {
     },
     /// The subscription's consumers or snapshots change.
     Sub(SubChange),
-    /// A sender's session begins, which the other side has not opened yet.
+    /// A replicator's session begins, which the other side has not opened yet.
     Opening {
         remote: u32,
     },
@@ -36,7 +36,7 @@ pub enum BookChange {
         remote: u32,
         index: u64,
     },
-    /// A sender has read what stands below an index.
+    /// A replicator has read what stands below an index.
     ReadTo {
         remote: u32,
         index: u64,

@@ -6,50 +6,51 @@ ghost use Rattle.geo_base.specs.declared.session.Session.{Session};
 ghost use Rattle.broker_subs.specs.Steps as sub;
 ghost use Rattle.broker_subs.specs.Table.{names_of, room_at, sub_at};
 ghost use Rattle.broker_state.specs.Fits.{ChangeFits, ChangePlaceFits, SameShape};
-ghost use Rattle.broker_state.specs.Room.{ChangeLeaves, change_room, change_senders};
-ghost use Rattle.broker_state.specs.Senders as sender;
+ghost use Rattle.broker_state.specs.Room.{ChangeLeaves, change_room, change_replicators};
+ghost use Rattle.broker_state.specs.Replicators as replicator;
 ghost use Rattle.broker_state.specs.Writes.{machine_change};
 
 use crate::boxed::BoxedBuilder;
-use crate::change::BookChange;
-use crate::sender_row::SenderStep;
+use crate::change::StateChange;
+use crate::replicator_row::ReplicatorStep;
 use crate::state::BrokerState;
 use broker_subs::SubChange;
 use geo_base::Session;
+use replicated_subs::SnapshotBuilder;
 use replicator::Receiver;
-use snapshots::Builder;
 
 impl BrokerState {
     /// Makes one change in memory of an event about the subscription at a place.
-    pub(crate) fn change(&mut self, place: usize, change: BookChange)
-        requires place { ChangePlaceFits place (length self.old.broker.subs) change }
-        requires fits { ChangeFits place self.old.broker change }
-        requires room { change_room change ≤ (room_at self.old.room.subs place).room }
-        requires senders { change_senders change ≤ self.old.room.senders }
-        ensures broker { self.new.broker ≡ changed self.old.broker (machine_change (sub_at self.old.broker.subs place).name change) }
+    pub(crate) fn change(&mut self, sub_index: usize, change: StateChange)
+        requires sub_index { ChangePlaceFits sub_index (length self.old.broker.subs) change }
+        requires fits { ChangeFits sub_index self.old.broker change }
+        requires room { change_room change ≤ (room_at self.old.room.subs sub_index).room }
+        requires replicators { change_replicators change ≤ self.old.room.replicators }
+        ensures broker { self.new.broker ≡ changed self.old.broker (machine_change (sub_at self.old.broker.subs sub_index).name change) }
         ensures names { names_of self.new.broker.subs ≡ names_of self.old.broker.subs }
         ensures site { self.new.site ≡ self.old.site }
         ensures shape { SameShape self.old.broker self.new.broker }
-        ensures room { ChangeLeaves place change self.old.room self.new.room }
+        ensures room { ChangeLeaves sub_index change self.old.room self.new.room }
     {
         match change {
-            BookChange::Receiver { source, session } => self.receive(source, session),
-            BookChange::Client { client, session } => self.have_open(client, session),
-            BookChange::Detach { client } => self.subs.leave(client),
-            BookChange::Sub(change) => self.change_sub(place, change),
-            BookChange::Opening { remote } => self.senders.step(remote, SenderStep::Begin),
-            BookChange::Opened { remote } => self.senders.step(remote, SenderStep::Opened),
-            BookChange::Pend { remote, index } => self
-                .senders
-                .step(remote, SenderStep::Pend(index)),
-            BookChange::ReadTo { remote, index } => {
-                self.senders.step(remote, SenderStep::ReadTo(index));
+            StateChange::Receiver { source, session } => self.receive(source, session),
+            StateChange::Client { client, session } => self.have_open(client, session),
+            StateChange::Detach { client } => self.subs.leave(client),
+            StateChange::Sub(change) => self.change_sub(sub_index, change),
+            StateChange::Opening { remote } => self.replicators.step(remote, ReplicatorStep::Begin),
+            StateChange::Opened { remote } => self.replicators.step(remote, ReplicatorStep::Opened),
+            StateChange::Pend { remote, index } => self
+                .replicators
+                .step(remote, ReplicatorStep::Pend(index)),
+            StateChange::ReadTo { remote, index } => {
+                self.replicators.step(remote, ReplicatorStep::ReadTo(index));
             }
-            BookChange::Unpend { remote, number } => {
-                self.senders.step(remote, SenderStep::Unpend(number));
+            StateChange::Unpend { remote, number } => {
+                self.replicators
+                    .step(remote, ReplicatorStep::Unpend(number));
             }
-            BookChange::Building { builder } => self.build(builder),
-            BookChange::Forget => self.forget(),
+            StateChange::Building { builder } => self.build(builder),
+            StateChange::Forget => self.forget(),
         }
     }
 
@@ -77,17 +78,17 @@ impl BrokerState {
     }
 
     /// The consumers or snapshots of the subscription at a place change.
-    fn change_sub(&mut self, place: usize, change: SubChange)
-        requires place { place < length self.old.broker.subs }
-        requires room { sub.room_needed change ≤ (room_at self.old.room.subs place).room }
-        requires fits { sub.SubChangeFits (sub_at self.old.broker.subs place) change }
-        ensures broker { self.new.broker ≡ changed self.old.broker (sub.machine_sub_change (sub_at self.old.broker.subs place).name change) }
+    fn change_sub(&mut self, sub_index: usize, change: SubChange)
+        requires sub_index { sub_index < length self.old.broker.subs }
+        requires room { sub.room_needed change ≤ (room_at self.old.room.subs sub_index).room }
+        requires fits { sub.SubChangeFits (sub_at self.old.broker.subs sub_index) change }
+        ensures broker { self.new.broker ≡ changed self.old.broker (sub.machine_sub_change (sub_at self.old.broker.subs sub_index).name change) }
         ensures names { names_of self.new.broker.subs ≡ names_of self.old.broker.subs }
         ensures site { self.new.site ≡ self.old.site }
-        ensures room { (room_at self.old.room.subs place).room ≡ (room_at self.new.room.subs place).room + sub.room_needed change }
+        ensures room { (room_at self.old.room.subs sub_index).room ≡ (room_at self.new.room.subs sub_index).room + sub.room_needed change }
         ensures rest { self.new.room ≡ record self.old.room { subs = self.new.room.subs } }
     {
-        self.subs.change(place, change);
+        self.subs.change(sub_index, change);
     }
 
     /// A restart: what is in memory is lost.
@@ -97,7 +98,7 @@ impl BrokerState {
         ensures site { self.new.site ≡ self.old.site }
         ensures room { self.new.room ≡ self.old.room }
     {
-        self.senders.restart();
+        self.replicators.restart();
         close_each(self.receivers.as_mut_slice());
         self.subs.clear();
         end_each(self.sessions.as_mut_slice());
@@ -106,7 +107,7 @@ impl BrokerState {
 }
 
 /// The snapshot that is being made, out of its box.
-fn unboxed(builder: Option<BoxedBuilder>) -> Option<Builder>
+fn unboxed(builder: Option<BoxedBuilder>) -> Option<SnapshotBuilder>
     ensures { result ≡ builder }
 {
     match builder {

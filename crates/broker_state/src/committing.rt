@@ -4,13 +4,13 @@ ghost use Rattle.geo_base.specs.Plan.{all_changed, all_written, done};
 ghost use Rattle.broker_subs.specs.Table.{names_of, room_at, sub_at};
 ghost use Rattle.broker_state.specs.Fits.{AllChangesFit, AllWritesFit, ChangesNamed, PlanFits, SameShape, WritesNamed, all_names_after};
 ghost use Rattle.broker_state.specs.Plan.{IsEmptyPlan, name_of, plan_in};
-ghost use Rattle.broker_state.specs.Room.{ChangesHaveRoom, HasRoom, WritesHaveRoom, all_room_left, senders_of, total};
+ghost use Rattle.broker_state.specs.Room.{ChangesHaveRoom, HasRoom, WritesHaveRoom, all_room_left, replicators_of, total};
 ghost use Rattle.broker_state.specs.Writes.{machine_change, machine_write};
 
-use crate::change::BookChange;
+use crate::change::StateChange;
 use crate::plan::Plan;
 use crate::state::BrokerState;
-use crate::write::BookWrite;
+use crate::write::StateWrite;
 use std::collections::VecDeque;
 
 impl BrokerState {
@@ -28,33 +28,33 @@ impl BrokerState {
         plan.clear();
     }
 
-    fn write_all(&mut self, place: usize, writes: &mut VecDeque<BookWrite>)
-        requires named { WritesNamed (name_of self.old.broker.subs place writes.old.items) place (names_of self.old.broker.subs) writes.old.items }
-        requires fits { AllWritesFit self.old.site.per_ledger (name_of self.old.broker.subs place writes.old.items) self.old.broker.entries place self.old.broker writes.old.items }
-        requires room { WritesHaveRoom self.old.room place writes.old.items }
-        ensures broker { self.new.broker ≡ all_written self.old.site.per_ledger self.old.broker (map (machine_write (name_of self.old.broker.subs place writes.old.items) self.old.broker.entries) writes.old.items) }
-        ensures names { names_of self.new.broker.subs ≡ all_names_after place (names_of self.old.broker.subs) writes.old.items }
-        ensures given { all_room_left (room_at self.old.room.subs place).room writes.old.items ≤ (room_at self.new.room.subs place).room }
-        ensures senders { self.old.room.senders ≤ self.new.room.senders + total senders_of writes.old.items }
+    fn write_all(&mut self, sub_index: usize, writes: &mut VecDeque<StateWrite>)
+        requires named { WritesNamed (name_of self.old.broker.subs sub_index writes.old.items) sub_index (names_of self.old.broker.subs) writes.old.items }
+        requires fits { AllWritesFit self.old.site.per_ledger (name_of self.old.broker.subs sub_index writes.old.items) self.old.broker.entries sub_index self.old.broker writes.old.items }
+        requires room { WritesHaveRoom self.old.room sub_index writes.old.items }
+        ensures broker { self.new.broker ≡ all_written self.old.site.per_ledger self.old.broker (map (machine_write (name_of self.old.broker.subs sub_index writes.old.items) self.old.broker.entries) writes.old.items) }
+        ensures names { names_of self.new.broker.subs ≡ all_names_after sub_index (names_of self.old.broker.subs) writes.old.items }
+        ensures given { all_room_left (room_at self.old.room.subs sub_index).room writes.old.items ≤ (room_at self.new.room.subs sub_index).room }
+        ensures replicators { self.old.room.replicators ≤ self.new.room.replicators + total replicators_of writes.old.items }
         ensures site { self.new.site ≡ self.old.site }
         ensures shape { SameShape self.old.broker self.new.broker }
     {
         while let Some(write) = writes.pop_front() {
-            self.write(place, write);
+            self.write(sub_index, write);
         }
     }
 
     /// The changes are of the subscription whose name stands at the place.
-    fn change_all(&mut self, place: usize, changes: &mut VecDeque<BookChange>)
-        requires named { ChangesNamed (sub_at self.old.broker.subs place).name place (names_of self.old.broker.subs) changes.old.items }
-        requires fits { AllChangesFit (sub_at self.old.broker.subs place).name place self.old.broker changes.old.items }
-        requires room { ChangesHaveRoom self.old.room place changes.old.items }
-        ensures broker { self.new.broker ≡ all_changed self.old.broker (map (machine_change (sub_at self.old.broker.subs place).name) changes.old.items) }
+    fn change_all(&mut self, sub_index: usize, changes: &mut VecDeque<StateChange>)
+        requires named { ChangesNamed (sub_at self.old.broker.subs sub_index).name sub_index (names_of self.old.broker.subs) changes.old.items }
+        requires fits { AllChangesFit (sub_at self.old.broker.subs sub_index).name sub_index self.old.broker changes.old.items }
+        requires room { ChangesHaveRoom self.old.room sub_index changes.old.items }
+        ensures broker { self.new.broker ≡ all_changed self.old.broker (map (machine_change (sub_at self.old.broker.subs sub_index).name) changes.old.items) }
         ensures site { self.new.site ≡ self.old.site }
         ensures shape { SameShape self.old.broker self.new.broker }
     {
         while let Some(change) = changes.pop_front() {
-            self.change(place, change);
+            self.change(sub_index, change);
         }
     }
 }

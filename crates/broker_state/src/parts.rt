@@ -2,17 +2,17 @@
 ghost use Rattle.std.specs.Prelude.{◌≡◌, ◌<◌, [], ◌∷◌, None, length, replicate, IfOk};
 ghost use Rattle.topic_store.specs.Table.{Tells};
 ghost use Rattle.geo_base.specs.Broker.{new_broker};
-ghost use Rattle.geo_base.specs.Sender.{new_sender};
-ghost use Rattle.broker_subs.specs.SubBook.{subs_of};
+ghost use Rattle.geo_base.specs.Replicator.{new_replicator};
+ghost use Rattle.broker_subs.specs.SubView.{subs_of};
 ghost use Rattle.durable_parts.specs.Durable.{broker_of};
-ghost use Rattle.broker_state.specs.Parts.{AreParts, book_of};
+ghost use Rattle.broker_state.specs.Parts.{AreParts, state_view};
 ghost use Rattle.broker_state.specs.State.{marker_number, no_room};
 
-use crate::senders::SenderTable;
+use crate::replicators::ReplicatorTable;
 use crate::site::Site;
 use crate::state::BrokerState;
 use broker_subs::SubTable;
-use durable_parts::{Durable, DurableSenders, DurableSubs, recover};
+use durable_parts::{Durable, DurableReplicators, DurableSubs, recover};
 use geo_base::{Memory, Session};
 use replicator::Receiver;
 use std::alloc::Global;
@@ -29,7 +29,7 @@ pub(crate) struct Parts {
 /// The tables of which a part is durable.
 #[derive(Drop)]
 pub(crate) struct Tables {
-    pub(crate) senders: SenderTable,
+    pub(crate) replicators: ReplicatorTable,
     pub(crate) subs: SubTable,
 }
 
@@ -47,7 +47,7 @@ impl BrokerState {
     /// The broker of a site that is made of parts; takes no memory.
     pub(crate) fn of_parts(site: Site, parts: Parts) -> BrokerState
         requires { AreParts site parts }
-        ensures { result ≡ book_of site parts }
+        ensures { result ≡ state_view site parts }
     {
         let Parts {
             store,
@@ -59,7 +59,7 @@ impl BrokerState {
             store,
             dedup: memory.dedup,
             next_marker: memory.next_marker,
-            senders: tables.senders,
+            replicators: tables.replicators,
             receivers: memory.receivers,
             subs: tables.subs,
             sessions: memory.sessions,
@@ -74,7 +74,7 @@ impl Parts {
     pub(crate) fn new(alloc: Global, site: &Site, clients: usize) -> Result<Parts, Memory>
         requires { 0 < site.now.per_ledger }
         ensures parts { IfOk result (AreParts site.now) }
-        ensures book { IfOk result (λ p. book_of site.now p ≡ record { site = site.now; broker = new_broker (length site.now.clusters) clients; room = no_room }) }
+        ensures made { IfOk result (λ p. state_view site.now p ≡ record { site = site.now; broker = new_broker (length site.now.clusters) clients; room = no_room }) }
     {
         let clusters = site.clusters().len();
         let memory = InMemory::new(alloc, clusters, clients)?;
@@ -100,9 +100,9 @@ impl Parts {
     ) -> Result<Parts, Memory>
         requires own { durable.own ≡ site.now.own }
         requires per_ledger { durable.store.per_ledger ≡ site.now.per_ledger }
-        requires senders { length durable.senders ≡ length site.now.clusters }
+        requires replicators { length durable.replicators ≡ length site.now.clusters }
         ensures parts { IfOk result (AreParts site.now) }
-        ensures broker { IfOk result (λ p. (book_of site.now p).broker ≡ record (broker_of durable) { receivers = replicate (length durable.senders) None; sessions = replicate clients None }) }
+        ensures broker { IfOk result (λ p. (state_view site.now p).broker ≡ record (broker_of durable) { receivers = replicate (length durable.replicators) None; sessions = replicate clients None }) }
     {
         let memory = InMemory::recovered(alloc, &durable, site.clusters().len(), clients);
         match memory {
@@ -117,8 +117,8 @@ impl Parts {
     /// Those of what is durable, with what no stop leaves.
     fn of_durable(alloc: Global, durable: Durable, memory: InMemory) -> Result<Parts, Memory>
         ensures store { IfOk result (λ p. p.store ≡ durable.store) }
-        ensures senders { IfOk result (λ p. p.tables.senders.senders ≡ durable.senders) }
-        ensures own { IfOk result (λ p. p.tables.senders.own ≡ durable.own) }
+        ensures replicators { IfOk result (λ p. p.tables.replicators.replicators ≡ durable.replicators) }
+        ensures own { IfOk result (λ p. p.tables.replicators.own ≡ durable.own) }
         ensures subs { IfOk result (λ p. subs_of p.tables.subs.subs ≡ durable.subs) }
         ensures memory { IfOk result (λ p. p.memory ≡ memory) }
     {
@@ -126,9 +126,9 @@ impl Parts {
             own,
             store,
             subs,
-            senders,
+            replicators,
         } = durable;
-        match Tables::restored(alloc, own, subs, senders) {
+        match Tables::restored(alloc, own, subs, replicators) {
             Ok(tables) => Ok(Parts {
                 store,
                 tables,
@@ -147,18 +147,18 @@ impl Parts {
 fn empty_topic(alloc: Global, site: &Site) -> Result<(TopicLedger, Tables), Memory>
     requires { 0 < site.now.per_ledger }
     ensures store { IfOk result (λ t. t.0 ≡ record { entries = []; ledgers = 0 ∷ []; per_ledger = site.now.per_ledger; spare = 0 }) }
-    ensures senders { IfOk result (λ t. t.1.senders ≡ record { own = site.now.own; senders = replicate (length site.now.clusters) new_sender; room = 0 }) }
+    ensures replicators { IfOk result (λ t. t.1.replicators ≡ record { own = site.now.own; replicators = replicate (length site.now.clusters) new_replicator; room = 0 }) }
     ensures subs { IfOk result (λ t. t.1.subs ≡ record { subs = []; room = 0 }) }
 {
     let clusters = site.clusters().len() as u32;
-    let senders = SenderTable::new(alloc, site.own(), clusters)?;
+    let replicators = ReplicatorTable::new(alloc, site.own(), clusters)?;
     match TopicLedger::new(alloc, site.per_ledger()) {
         Ok(store) => {
             let subs = SubTable::new(alloc);
-            Ok((store, Tables { senders, subs }))
+            Ok((store, Tables { replicators, subs }))
         }
         Err(fault) => {
-            drop(senders);
+            drop(replicators);
             Err(fault)
         }
     }
@@ -170,23 +170,23 @@ impl Tables {
         alloc: Global,
         own: u32,
         subs: DurableSubs,
-        senders: DurableSenders,
+        replicators: DurableReplicators,
     ) -> Result<Tables, Memory>
-        ensures senders { IfOk result (λ t. t.senders.senders ≡ senders) }
-        ensures own { IfOk result (λ t. t.senders.own ≡ own) }
+        ensures replicators { IfOk result (λ t. t.replicators.replicators ≡ replicators) }
+        ensures own { IfOk result (λ t. t.replicators.own ≡ own) }
         ensures subs { IfOk result (λ t. subs_of t.subs.subs ≡ subs) }
     {
-        let senders = match SenderTable::restored(alloc, own, senders) {
-            Ok(senders) => senders,
+        let replicators = match ReplicatorTable::restored(alloc, own, replicators) {
+            Ok(replicators) => replicators,
             Err(fault) => {
                 drop(subs);
                 return Err(fault);
             }
         };
         match SubTable::restored(alloc, subs) {
-            Ok(subs) => Ok(Tables { senders, subs }),
+            Ok(subs) => Ok(Tables { replicators, subs }),
             Err(fault) => {
-                drop(senders);
+                drop(replicators);
                 Err(fault)
             }
         }

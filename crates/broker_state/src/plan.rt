@@ -2,10 +2,10 @@
 ghost use Rattle.std.specs.Prelude.{◌≡◌, ℕ, ◌<◌, ◌==◌, ◌++◌, ◌∷◌, [], IfOk, OnErr, OnOk, Some, length, slice_get};
 ghost use Rattle.geo_base.specs.Broker.{Broker};
 ghost use Rattle.geo_base.specs.Plan.{done, halted};
-ghost use Rattle.broker_state.specs.Plan.{IsEmptyPlan, halted_book, plan_in, quiet_book};
+ghost use Rattle.broker_state.specs.Plan.{IsEmptyPlan, halted_view, plan_in, quiet_view};
 
-use crate::change::BookChange;
-use crate::write::BookWrite;
+use crate::change::StateChange;
+use crate::write::StateWrite;
 use geo_base::{Memory, WireOut};
 use std::alloc::Global;
 use std::collections::VecDeque;
@@ -17,15 +17,15 @@ use std::marker::Model;
 pub struct Plan {
     idle: bool,
     pub(crate) sub: usize,
-    pub(crate) writes: VecDeque<BookWrite>,
-    pub(crate) changes: VecDeque<BookChange>,
+    pub(crate) writes: VecDeque<StateWrite>,
+    pub(crate) changes: VecDeque<StateChange>,
     sent: VecDeque<WireOut>,
 }
 
 impl Model for Plan {
-    ghost use Rattle.broker_state.specs.Plan.{PlanBook};
+    ghost use Rattle.broker_state.specs.Plan.{PlanView};
 
-    ghost Value = { PlanBook };
+    ghost Value = { PlanView };
 
     ghost view = { λ p. record { idle = p.idle; sub = p.sub; writes = p.writes.items; changes = p.changes.items; sent = p.sent.items } };
 }
@@ -58,14 +58,14 @@ impl Plan {
     /// An event that is enabled and does nothing yet, about the subscription at a place, if it is about one.
     pub fn begin(&mut self, sub: usize)
         requires { IsEmptyPlan self.old }
-        ensures { self.new ≡ quiet_book sub }
+        ensures { self.new ≡ quiet_view sub }
     {
         self.idle = false;
         self.sub = sub;
     }
 
     /// One more durable write; unchanged where memory is wanting.
-    pub fn write(&mut self, write: BookWrite) -> Result<(), Memory>
+    pub fn write(&mut self, write: StateWrite) -> Result<(), Memory>
         ensures ok { OnOk result (self.new ≡ record self.old { writes = self.old.writes ++ write ∷ [] }) }
         ensures err { OnErr result (self.new ≡ self.old) }
     {
@@ -73,7 +73,7 @@ impl Plan {
     }
 
     /// One more change in memory; unchanged where memory is wanting.
-    pub fn change(&mut self, change: BookChange) -> Result<(), Memory>
+    pub fn change(&mut self, change: StateChange) -> Result<(), Memory>
         ensures ok { OnOk result (self.new ≡ record self.old { changes = self.old.changes ++ change ∷ [] }) }
         ensures err { OnErr result (self.new ≡ self.old) }
     {
@@ -110,14 +110,14 @@ impl Plan {
     }
 
     /// The place of the subscription that the event is about.
-    pub fn place(&self) -> usize
+    pub fn sub_index(&self) -> usize
         ensures { result ≡ self.now.sub }
     {
         self.sub
     }
 
     /// The durable write of a number, in the order in which they are done.
-    pub fn write_at(&self, number: usize) -> &BookWrite
+    pub fn write_at(&self, number: usize) -> &StateWrite
         requires { number < length self.now.writes }
         ensures { slice_get self.now.writes number ≡ Some result.now }
     {
@@ -140,10 +140,10 @@ impl Plan {
         self.sent = sent;
     }
 
-    /// The event becomes a stop behind its first `k` durable writes: a ledger opens, what is in memory is lost, and nothing is sent.
+    /// The event becomes a stop after its first `k` durable writes: a ledger opens, what is in memory is lost, and nothing is sent.
     /// Where memory is wanting, its changes and packets are given up.
     pub fn halt_behind(&mut self, k: usize) -> Result<(), Memory>
-        ensures book { OnOk result (self.new ≡ halted_book k self.old) }
+        ensures made { OnOk result (self.new ≡ halted_view k self.old) }
         ensures halted { OnOk result ((per : ℕ) (b : Broker) → done per b (plan_in b self.new) ≡ halted per b k (plan_in b self.old)) }
         ensures err { OnErr result ((self.new.changes ≡ []) × (self.new.sent ≡ [])) }
     {
@@ -151,15 +151,15 @@ impl Plan {
     }
 
     fn stop_behind(&mut self, k: usize) -> Result<(), Memory>
-        ensures ok { OnOk result (self.new ≡ halted_book k self.old) }
+        ensures ok { OnOk result (self.new ≡ halted_view k self.old) }
         ensures err { OnErr result ((self.new.changes ≡ []) × (self.new.sent ≡ [])) }
     {
         self.idle = false;
         self.writes.truncate(k);
         self.changes.clear();
         self.sent.clear();
-        self.write(BookWrite::Ledger)?;
-        self.change(BookChange::Forget)
+        self.write(StateWrite::Ledger)?;
+        self.change(StateChange::Forget)
     }
 }
 

@@ -34,27 +34,27 @@ impl BrokerState {
 
     /// Makes room at the subscription at a place: for so many consumers that join and indexes that are given, and for so many
     /// acknowledged indexes. Where memory is wanting there is room for as many of the former as before, and for no fewer of the latter.
-    pub fn reserve_sub(&mut self, place: usize, room: usize, acks: usize) -> Result<(), Memory>
-        requires { place < length self.old.broker.subs }
+    pub fn reserve_sub(&mut self, sub_index: usize, room: usize, acks: usize) -> Result<(), Memory>
+        requires { sub_index < length self.old.broker.subs }
         ensures broker { self.new.broker ≡ self.old.broker }
         ensures site { self.new.site ≡ self.old.site }
-        ensures room { OnOk result ((room_at self.new.room.subs place).room ≡ room) }
-        ensures acks { OnOk result (acks ≤ (room_at self.new.room.subs place).acks) }
-        ensures more { (room_at self.old.room.subs place).acks ≤ (room_at self.new.room.subs place).acks }
-        ensures err { OnErr result ((room_at self.new.room.subs place).room ≡ (room_at self.old.room.subs place).room) }
+        ensures room { OnOk result ((room_at self.new.room.subs sub_index).room ≡ room) }
+        ensures acks { OnOk result (acks ≤ (room_at self.new.room.subs sub_index).acks) }
+        ensures more { (room_at self.old.room.subs sub_index).acks ≤ (room_at self.new.room.subs sub_index).acks }
+        ensures err { OnErr result ((room_at self.new.room.subs sub_index).room ≡ (room_at self.old.room.subs sub_index).room) }
         ensures rest { self.new.room ≡ record self.old.room { subs = self.new.room.subs } }
     {
-        self.subs.reserve_at(place, room, acks)
+        self.subs.reserve_at(sub_index, room, acks)
     }
 
-    /// Makes room for `n` more indexes that a sender is acknowledged or sends; for none where memory is wanting.
-    pub fn reserve_senders(&mut self, n: usize) -> Result<(), Memory>
+    /// Makes room for `n` more indexes that a replicator is acknowledged or sends; for none where memory is wanting.
+    pub fn reserve_replicators(&mut self, n: usize) -> Result<(), Memory>
         ensures broker { self.new.broker ≡ self.old.broker }
         ensures site { self.new.site ≡ self.old.site }
-        ensures senders { OnOk result (self.new.room.senders ≡ n) }
-        ensures err { OnErr result (self.new.room.senders ≡ 0) }
-        ensures rest { self.new.room ≡ record self.old.room { senders = self.new.room.senders } }
+        ensures replicators { OnOk result (self.new.room.replicators ≡ n) }
+        ensures err { OnErr result (self.new.room.replicators ≡ 0) }
+        ensures rest { self.new.room ≡ record self.old.room { replicators = self.new.room.replicators } }
     {
-        self.senders.reserve(n)
+        self.replicators.reserve(n)
     }
 }

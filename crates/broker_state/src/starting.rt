@@ -1,17 +1,17 @@
 //! A broker over a restart: what is durable of it, and what it is again.
 ghost use Rattle.std.specs.Prelude.{◌≡◌, ◌++◌, ◌∷◌, ◌≤◌, ◌^◌, [], None, length, map, replicate, IfNone, IfOk, IfSome, OnOk};
-ghost use Rattle.geo_base.specs.Sender.{sender_restarted};
+ghost use Rattle.geo_base.specs.Replicator.{replicator_restarted};
 ghost use Rattle.durable_parts.specs.Durable.{broker_of, durable_part};
 ghost use Rattle.durable_parts.specs.Parts as durable;
 ghost use Rattle.broker_state.specs.State.{no_room};
-ghost use Rattle.broker_state.specs.Senders.{AreOf, ends_of, senders_of};
+ghost use Rattle.broker_state.specs.Replicators.{AreOf, ends_of, replicators_of};
 
 use crate::parts::Parts;
-use crate::sender_row::SenderRow;
-use crate::senders::SenderTable;
+use crate::replicator_row::ReplicatorRow;
+use crate::replicators::ReplicatorTable;
 use crate::site::Site;
 use crate::state::BrokerState;
-use durable_parts::{Durable, DurableSender, DurableSenders};
+use durable_parts::{Durable, DurableReplicator, DurableReplicators};
 use geo_base::{Memory, cluster_number};
 use std::alloc::Global;
 
@@ -26,7 +26,7 @@ impl BrokerState {
             own: self.site.own(),
             store: self.store.copy(alloc)?,
             subs: self.subs.durable(alloc)?,
-            senders: self.senders.durable(alloc)?,
+            replicators: self.replicators.durable(alloc)?,
         })
     }
 
@@ -39,8 +39,8 @@ impl BrokerState {
     ) -> Result<BrokerState, Memory>
         requires own { durable.own ≡ site.own }
         requires per_ledger { durable.store.per_ledger ≡ site.per_ledger }
-        requires senders { length durable.senders ≡ length site.clusters }
-        ensures broker { IfOk result (λ b. b.broker ≡ record (broker_of durable) { receivers = replicate (length durable.senders) None; sessions = replicate clients None }) }
+        requires replicators { length durable.replicators ≡ length site.clusters }
+        ensures broker { IfOk result (λ b. b.broker ≡ record (broker_of durable) { receivers = replicate (length durable.replicators) None; sessions = replicate clients None }) }
         ensures site { IfOk result (λ b. b.site ≡ site) }
     {
         let parts = Parts::restored(alloc, &site, durable, clients);
@@ -54,38 +54,45 @@ impl BrokerState {
     }
 }
 
-impl SenderTable {
-    /// What is durable of the senders.
-    pub fn durable(&self, alloc: Global) -> Result<DurableSenders, Memory>
-        ensures { IfOk result (λ d. d ≡ map sender_restarted self.now.senders) }
+impl ReplicatorTable {
+    /// What is durable of the replicators.
+    pub fn durable(&self, alloc: Global) -> Result<DurableReplicators, Memory>
+        ensures { IfOk result (λ d. d ≡ map replicator_restarted self.now.replicators) }
     {
-        Ok(DurableSenders::from_vec(durable_senders(alloc, self.senders.as_slice())?))
+        Ok(DurableReplicators::from_vec(durable_replicators(alloc, self.replicators.as_slice())?))
     }
 
-    /// The senders of cluster `own` as they are after a restart, from what is durable of them.
-    pub fn restored(alloc: Global, own: u32, parts: DurableSenders) -> Result<SenderTable, Memory>
-        ensures senders { IfOk result (λ t. t.senders ≡ parts) }
+    /// The replicators of cluster `own` as they are after a restart, from what is durable of them.
+    pub fn restored(
+        alloc: Global,
+        own: u32,
+        parts: DurableReplicators,
+    ) -> Result<ReplicatorTable, Memory>
+        ensures replicators { IfOk result (λ t. t.replicators ≡ parts) }
         ensures own { IfOk result (λ t. t.own ≡ own) }
     {
-        let rows = restored_senders(alloc, own, parts.into_vec())?;
-        Ok(SenderTable::from_vec(own, rows))
+        let rows = restored_replicators(alloc, own, parts.into_vec())?;
+        Ok(ReplicatorTable::from_vec(own, rows))
     }
 }
 
-impl SenderRow {
+impl ReplicatorRow {
     /// What is durable.
-    pub fn durable(&self, alloc: Global) -> Result<DurableSender, Memory>
-        ensures { IfOk result (λ d. durable.sender_of d ≡ sender_restarted self.now.sender) }
+    pub fn durable(&self, alloc: Global) -> Result<DurableReplicator, Memory>
+        ensures { IfOk result (λ d. durable.replicator_of d ≡ replicator_restarted self.now.replicator) }
     {
-        Ok(DurableSender {
-            session: self.sender().session(),
+        Ok(DurableReplicator {
+            session: self.replicator().session(),
             cursor: self.cursor().copy(alloc)?,
         })
     }
 }
 
-fn durable_senders(alloc: Global, rows: &[SenderRow]) -> Result<Vec<DurableSender>, Memory>
-    ensures { IfOk result (λ ds. durable.senders_of ds.items ≡ map sender_restarted (senders_of rows.now)) }
+fn durable_replicators(
+    alloc: Global,
+    rows: &[ReplicatorRow],
+) -> Result<Vec<DurableReplicator>, Memory>
+    ensures { IfOk result (λ ds. durable.replicators_of ds.items ≡ map replicator_restarted (replicators_of rows.now)) }
 {
     let mut parts = Vec::new(alloc);
     for row in rows {
@@ -94,13 +101,13 @@ fn durable_senders(alloc: Global, rows: &[SenderRow]) -> Result<Vec<DurableSende
     Ok(parts)
 }
 
-/// A sender's cluster is its place; a cluster's number has 32 bits.
-fn restored_senders(
+/// A replicator's cluster is its place; a cluster's number has 32 bits.
+fn restored_replicators(
     alloc: Global,
     own: u32,
-    parts: Vec<DurableSender>,
-) -> Result<Vec<SenderRow>, Memory>
-    ensures senders { IfOk result (λ rows. senders_of rows.items ≡ durable.senders_of parts.items) }
+    parts: Vec<DurableReplicator>,
+) -> Result<Vec<ReplicatorRow>, Memory>
+    ensures replicators { IfOk result (λ rows. replicators_of rows.items ≡ durable.replicators_of parts.items) }
     ensures ends { IfOk result (λ rows. AreOf own (ends_of rows.items)) }
 {
     let mut rows = Vec::new(alloc);
@@ -113,16 +120,16 @@ fn restored_senders(
     }
 }
 
-/// Makes the senders anew, where there is none yet.
-#[tactic(auto, using(crate::proofs::SenderTables::ends_none, crate::proofs::SenderTables::ends_pushed))]
+/// Makes the replicators anew, where there is none yet.
+#[tactic(auto, using(crate::proofs::ReplicatorTables::ends_none, crate::proofs::ReplicatorTables::ends_pushed))]
 fn restore_each(
     alloc: Global,
     own: u32,
-    parts: Vec<DurableSender>,
-    rows: &mut Vec<SenderRow>,
+    parts: Vec<DurableReplicator>,
+    rows: &mut Vec<ReplicatorRow>,
 ) -> Result<(), Memory>
     requires { rows.old.items ≡ [] }
-    ensures senders { OnOk result (senders_of rows.new.items ≡ durable.senders_of parts.items) }
+    ensures replicators { OnOk result (replicators_of rows.new.items ≡ durable.replicators_of parts.items) }
     ensures ends { OnOk result (AreOf own (ends_of rows.new.items)) }
 {
     for part in parts {
@@ -131,7 +138,7 @@ fn restore_each(
         };
         add(
             rows,
-            SenderRow::restored(alloc, own, remote, part.session, part.cursor),
+            ReplicatorRow::restored(alloc, own, remote, part.session, part.cursor),
         )?;
     }
     Ok(())

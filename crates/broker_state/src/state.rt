@@ -1,56 +1,56 @@
 //! A broker's state.
 ghost use Rattle.std.specs.Prelude.{◌≡◌, ◌<◌, length, IfOk, IfSome};
 ghost use Rattle.std.specs.Option.{option_copied};
-ghost use Rattle.geo_base.specs.Broker.{new_broker, receiver_at, sender_at, session_at};
+ghost use Rattle.geo_base.specs.Broker.{new_broker, receiver_at, replicator_at, session_at};
 ghost use Rattle.geo_base.specs.Topic.{accepts, index_of};
-ghost use Rattle.broker_subs.specs.SubBook.{subs_of};
+ghost use Rattle.broker_subs.specs.SubView.{subs_of};
 ghost use Rattle.broker_subs.specs.Table.{rooms_of};
-ghost use Rattle.broker_state.specs.Senders.{ends_to};
-ghost use Rattle.broker_state.specs.State.{StateBook, marker_number, no_room};
+ghost use Rattle.broker_state.specs.Replicators.{ends_to};
+ghost use Rattle.broker_state.specs.State.{StateView, marker_number, no_room};
 ghost use Rattle.broker_state.specs.Site.{IsSite};
 
 use crate::parts::Parts;
-use crate::sender_row::SenderRow;
-use crate::senders::SenderTable;
+use crate::replicator_row::ReplicatorRow;
+use crate::replicators::ReplicatorTable;
 use crate::site::Site;
 use broker_subs::SubTable;
 use geo_base::{EntryStore, Memory, Position, Session};
+use replicated_subs::SnapshotBuilder;
 use replicator::Receiver;
-use snapshots::Builder;
 use std::alloc::Global;
 use std::marker::Model;
 use topic_store::{DedupTable, Stream, TopicLedger, Verdict};
 
 /// What a broker knows of the setup; its topic, with the table of its duplicates and the sequence id of the cluster's next marker;
-/// the senders and receivers by cluster; the subscriptions; the clients' sessions; and the snapshot that is being made.
+/// the replicators and receivers by cluster; the subscriptions; the clients' sessions; and the snapshot that is being made.
 #[derive(Drop)]
 pub struct BrokerState {
     pub(crate) site: Site,
     pub(crate) store: TopicLedger,
     pub(crate) dedup: DedupTable,
     pub(crate) next_marker: u64,
-    pub(crate) senders: SenderTable,
+    pub(crate) replicators: ReplicatorTable,
     pub(crate) receivers: Vec<Receiver>,
     pub(crate) subs: SubTable,
     pub(crate) sessions: Vec<Option<Session>>,
-    pub(crate) builder: Option<Builder>,
+    pub(crate) builder: Option<SnapshotBuilder>,
 }
 
 impl Model for BrokerState {
     ghost use Rattle.std.specs.Prelude.{length};
-    ghost use Rattle.broker_subs.specs.SubBook.{subs_of};
+    ghost use Rattle.broker_subs.specs.SubView.{subs_of};
     ghost use Rattle.broker_subs.specs.Table.{rooms_of};
-    ghost use Rattle.broker_state.specs.State.{BookHolds, StateBook};
+    ghost use Rattle.broker_state.specs.State.{StateHolds, StateView};
 
-    ghost Value = { StateBook };
+    ghost Value = { StateView };
 
     ghost view = { λ b. record {
       site = b.site;
-      broker = record { entries = b.store.entries; ledgers = b.store.ledgers; senders = b.senders.senders; receivers = b.receivers.items; subs = subs_of b.subs.subs; sessions = b.sessions.items; builder = b.builder };
-      room = record { entries = b.store.spare; streams = b.dedup.room; places = b.subs.room; subs = rooms_of b.subs.subs; senders = b.senders.room };
+      broker = record { entries = b.store.entries; ledgers = b.store.ledgers; replicators = b.replicators.replicators; receivers = b.receivers.items; subs = subs_of b.subs.subs; sessions = b.sessions.items; builder = b.builder };
+      room = record { entries = b.store.spare; streams = b.dedup.room; places = b.subs.room; subs = rooms_of b.subs.subs; replicators = b.replicators.room };
     } };
 
-    ghost invariant = { λ b. BookHolds b.site b.store.per_ledger b.next_marker b.senders.own (length b.senders.senders) (length b.receivers.items) b.dedup.rows b.store.entries };
+    ghost invariant = { λ b. StateHolds b.site b.store.per_ledger b.next_marker b.replicators.own (length b.replicators.replicators) (length b.receivers.items) b.dedup.rows b.store.entries };
 }
 
 impl BrokerState {
@@ -69,11 +69,11 @@ impl BrokerState {
         }
     }
 
-    /// What the broker knows of the setup. There is a sender and a receiver for each of its clusters.
+    /// What the broker knows of the setup. There is a replicator and a receiver for each of its clusters.
     pub fn site(&self) -> &Site
         ensures value { result.now ≡ self.now.site }
         ensures known { IsSite self.now.site }
-        ensures senders { length self.now.broker.senders ≡ length self.now.site.clusters }
+        ensures replicators { length self.now.broker.replicators ≡ length self.now.site.clusters }
         ensures receivers { length self.now.broker.receivers ≡ length self.now.site.clusters }
     {
         let _own = self.site.own();
@@ -116,20 +116,20 @@ impl BrokerState {
         self.next_marker
     }
 
-    /// The sender to a cluster.
-    pub fn sender(&self, remote: u32) -> &SenderRow
-        requires { remote < length self.now.broker.senders }
-        ensures sender { result.now.sender ≡ sender_at self.now.broker remote }
+    /// The replicator to a cluster.
+    pub fn replicator(&self, remote: u32) -> &ReplicatorRow
+        requires { remote < length self.now.broker.replicators }
+        ensures replicator { result.now.replicator ≡ replicator_at self.now.broker remote }
         ensures ends { result.now.ends ≡ ends_to self.now.site.own remote }
     {
-        self.senders.at(remote)
+        self.replicators.at(remote)
     }
 
-    /// How many senders there are: one for each cluster.
-    pub fn senders(&self) -> usize
-        ensures { result ≡ length self.now.broker.senders }
+    /// How many replicators there are: one for each cluster.
+    pub fn replicators(&self) -> usize
+        ensures { result ≡ length self.now.broker.replicators }
     {
-        self.senders.len()
+        self.replicators.len()
     }
 
     /// The session that is open on the forward link from a cluster.
@@ -164,7 +164,7 @@ impl BrokerState {
     }
 
     /// The snapshot that is being made.
-    pub fn builder(&self) -> Option<&Builder>
+    pub fn builder(&self) -> Option<&SnapshotBuilder>
         ensures { option_copied result ≡ self.now.broker.builder }
     {
         self.builder.as_ref()

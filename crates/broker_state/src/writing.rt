@@ -7,12 +7,12 @@ ghost use Rattle.geo_base.specs.declared.write.Write.TheVariants as write;
 ghost use Rattle.broker_subs.specs.Steps as sub;
 ghost use Rattle.broker_subs.specs.Table.{is_new, names_of, room_at, sub_at};
 ghost use Rattle.broker_state.specs.Fits.{PlaceFits, SameShape, WriteFits, names_after};
-ghost use Rattle.broker_state.specs.Room.{AcksFit, WriteLeaves, entries_of, places_of, senders_of, streams_of};
+ghost use Rattle.broker_state.specs.Room.{AcksFit, WriteLeaves, entries_of, places_of, replicators_of, streams_of};
 ghost use Rattle.broker_state.specs.Writes.{machine_write};
 
-use crate::sender_row::SenderStep;
+use crate::replicator_row::ReplicatorStep;
 use crate::state::BrokerState;
-use crate::write::BookWrite;
+use crate::write::StateWrite;
 use broker_subs::{Sub, SubWrite};
 use durable_parts::marker_after;
 use geo_base::{Entry, EntryStore};
@@ -20,32 +20,34 @@ use topic_store::Stream;
 
 impl BrokerState {
     /// Does one durable write of an event about the subscription at a place.
-    pub(crate) fn write(&mut self, place: usize, write: BookWrite)
-        requires place { PlaceFits place (length self.old.broker.subs) write }
-        requires fits { WriteFits self.old.broker.entries place self.old.broker write }
+    pub(crate) fn write(&mut self, sub_index: usize, write: StateWrite)
+        requires sub_index { PlaceFits sub_index (length self.old.broker.subs) write }
+        requires fits { WriteFits self.old.broker.entries sub_index self.old.broker write }
         requires entries { entries_of write ≤ self.old.room.entries }
         requires streams { streams_of write ≤ self.old.room.streams }
         requires places { places_of write ≤ self.old.room.places }
-        requires acks { AcksFit (room_at self.old.room.subs place).acks write }
-        requires senders { senders_of write ≤ self.old.room.senders }
-        ensures broker { self.new.broker ≡ written self.old.site.per_ledger self.old.broker (machine_write (sub_at self.old.broker.subs place).name self.old.broker.entries write) }
-        ensures names { names_of self.new.broker.subs ≡ names_after place (names_of self.old.broker.subs) write }
+        requires acks { AcksFit (room_at self.old.room.subs sub_index).acks write }
+        requires replicators { replicators_of write ≤ self.old.room.replicators }
+        ensures broker { self.new.broker ≡ written self.old.site.per_ledger self.old.broker (machine_write (sub_at self.old.broker.subs sub_index).name self.old.broker.entries write) }
+        ensures names { names_of self.new.broker.subs ≡ names_after sub_index (names_of self.old.broker.subs) write }
         ensures site { self.new.site ≡ self.old.site }
         ensures shape { SameShape self.old.broker self.new.broker }
-        ensures room { WriteLeaves place write self.old.room self.new.room }
+        ensures room { WriteLeaves sub_index write self.old.room self.new.room }
     {
         match write {
-            BookWrite::Append { entry, stream } => self.append(entry, stream),
-            BookWrite::Create { sub, latest } => self.create(sub, latest),
-            BookWrite::Delete => self.subs.delete(place),
-            BookWrite::Sub(write) => self.write_sub(place, write),
-            BookWrite::SenderAck { remote, index } => {
-                self.senders.step(remote, SenderStep::Acknowledge(index));
+            StateWrite::Append { entry, stream } => self.append(entry, stream),
+            StateWrite::Create { sub, latest } => self.create(sub, latest),
+            StateWrite::Delete => self.subs.delete(sub_index),
+            StateWrite::Sub(write) => self.write_sub(sub_index, write),
+            StateWrite::ReplicatorAck { remote, index } => {
+                self.replicators
+                    .step(remote, ReplicatorStep::Acknowledge(index));
             }
-            BookWrite::SessionNumber { remote, session } => {
-                self.senders.step(remote, SenderStep::Session(session));
+            StateWrite::SessionNumber { remote, session } => {
+                self.replicators
+                    .step(remote, ReplicatorStep::Session(session));
             }
-            BookWrite::Ledger => {
+            StateWrite::Ledger => {
                 self.store.open_ledger();
             }
         }
@@ -88,17 +90,17 @@ impl BrokerState {
     }
 
     /// The cursor, kind or mark of the subscription at a place is written.
-    fn write_sub(&mut self, place: usize, write: SubWrite)
-        requires place { place < length self.old.broker.subs }
-        requires acks { sub.acks_needed write ≤ (room_at self.old.room.subs place).acks }
-        requires fits { sub.SubWriteFits self.old.broker.entries (sub_at self.old.broker.subs place) write }
-        ensures broker { self.new.broker ≡ written self.old.site.per_ledger self.old.broker (sub.machine_sub_write (sub_at self.old.broker.subs place).name self.old.broker.entries write) }
+    fn write_sub(&mut self, sub_index: usize, write: SubWrite)
+        requires sub_index { sub_index < length self.old.broker.subs }
+        requires acks { sub.acks_needed write ≤ (room_at self.old.room.subs sub_index).acks }
+        requires fits { sub.SubWriteFits self.old.broker.entries (sub_at self.old.broker.subs sub_index) write }
+        ensures broker { self.new.broker ≡ written self.old.site.per_ledger self.old.broker (sub.machine_sub_write (sub_at self.old.broker.subs sub_index).name self.old.broker.entries write) }
         ensures names { names_of self.new.broker.subs ≡ names_of self.old.broker.subs }
         ensures site { self.new.site ≡ self.old.site }
-        ensures room { (room_at self.new.room.subs place).room ≡ (room_at self.old.room.subs place).room }
-        ensures acks { sub.acks_after (room_at self.old.room.subs place).acks write ≤ (room_at self.new.room.subs place).acks }
+        ensures room { (room_at self.new.room.subs sub_index).room ≡ (room_at self.old.room.subs sub_index).room }
+        ensures acks { sub.acks_after (room_at self.old.room.subs sub_index).acks write ≤ (room_at self.new.room.subs sub_index).acks }
         ensures rest { self.new.room ≡ record self.old.room { subs = self.new.room.subs } }
     {
-        self.subs.write(place, write, &self.store);
+        self.subs.write(sub_index, write, &self.store);
     }
 }

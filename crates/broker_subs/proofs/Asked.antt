@@ -82,7 +82,7 @@ least_alike d own cursor from (suc more) = ap (λ (o : Option ℕ). if is_due (s
 entry_alike : (d : Dispatch) (own : SubKind) (i : ℕ) (o : Option Entry) → (0 < length d.consumers → d.kind ≡ own) → choice_entry pick d i o ≡ choice_entry pick (of_kind own d) i o
 entry_alike d own i None kinds = refl
 entry_alike d own i (Some e) kinds =
-    ap (λ (o : Option ℕ). if is_data e.content then choice_data i o else does.Pass i) (same_pick d.kind own d.consumers (key_bytes e.meta.key) kinds)
+    ap (λ (o : Option ℕ). if is_data e.content then choice_data i o else does.Skip i) (same_pick d.kind own d.consumers (key_bytes e.meta.key) kinds)
 
 at_alike : (d : Dispatch) (own : SubKind) (es : List Entry) (o : Option ℕ) → (0 < length d.consumers → d.kind ≡ own) → choice_at pick d es o ≡ choice_at pick (of_kind own d) es o
 at_alike d own es None kinds = refl

@@ -3,36 +3,27 @@ use Rattle.std.proofs.Common.{◌≡◌, ℕ, ◌==◌, Bool, true, false, List,
 use Rattle.std.specs.Prelude.{nat_lt, not, ◌||◌, if◌then◌else◌}
 use Rattle.std.specs.List.{filter, list_any}
 use Rattle.std.proofs.lemmas.Bool.Decides.{nat_tests}
-use Rattle.geo_base.specs.declared.consumer.Outstanding.{Outstanding}
+use Rattle.geo_base.specs.declared.consumer.Unacked.{Unacked}
 use Rattle.geo_base.specs.Cursor.{has, with_indexes}
 use Rattle.geo_base.specs.Dispatcher.{with_out}
 use Rattle.cursor_acks.proofs.Sets.{has_with_indexes}
-
-pub or_left : (a b : Bool) → a ≡ true → (a || b) ≡ true
-or_left true b h = refl
-or_left false b h = absurd (cc)
-
-pub or_right : (a b : Bool) → b ≡ true → (a || b) ≡ true
-or_right true b h = refl
-or_right false b h = h
+pub use Rattle.geo_base.proofs.Bools.{or_of_first as or_left, or_of_second as or_right}
+pub use Rattle.geo_base.proofs.Sums.{eq_itself as itself}
 
 pub or_cases : (a b : Bool) {P : Type 0} → (a || b) ≡ true → (a ≡ true → P) → (b ≡ true → P) → P
 or_cases true b h f g = f refl
 or_cases false b h f g = g h
 
-pub itself : (i : ℕ) → (i == i) ≡ true
-itself i = grind (arith, nat_tests)
-
 -- an index is out
-abbrev pub is_out : List Outstanding → ℕ → Bool
-is_out os i = list_any (λ (o : Outstanding). o.index == i) os
+abbrev pub is_out : List Unacked → ℕ → Bool
+is_out os i = list_any (λ (o : Unacked). o.index == i) os
 
-out_left_case : (p : Outstanding → Bool) (i : ℕ) (o : Outstanding) (os : List Outstanding) (b : Bool) → (is_out (filter p os) i ≡ true → is_out os i ≡ true) → is_out (if b then o ∷ filter p os else filter p os) i ≡ true → is_out (o ∷ os) i ≡ true
+out_left_case : (p : Unacked → Bool) (i : ℕ) (o : Unacked) (os : List Unacked) (b : Bool) → (is_out (filter p os) i ≡ true → is_out os i ≡ true) → is_out (if b then o ∷ filter p os else filter p os) i ≡ true → is_out (o ∷ os) i ≡ true
 out_left_case p i o os true rest h = or_cases (o.index == i) _ h (or_left (o.index == i) _) (λ e. or_right (o.index == i) _ (rest e))
 out_left_case p i o os false rest h = or_right (o.index == i) _ (rest h)
 
 -- what is still out was out
-pub out_left : (p : Outstanding → Bool) (i : ℕ) (os : List Outstanding) → is_out (filter p os) i ≡ true → is_out os i ≡ true
+pub out_left : (p : Unacked → Bool) (i : ℕ) (os : List Unacked) → is_out (filter p os) i ≡ true → is_out os i ≡ true
 out_left p i [] h = h
 out_left p i (o ∷ os) h = out_left_case p i o os (p o) (out_left p i os) h
 
@@ -44,7 +35,7 @@ pub due_left : (p : ℕ → Bool) (i : ℕ) (xs : List ℕ) → has (filter p xs
 due_left p i [] h = h
 due_left p i (x ∷ xs) h = due_left_case p i x xs (p x) (due_left p i xs) h
 
-out_gains_case : (i : ℕ) (o x : Outstanding) (xs : List Outstanding) (lower same : Bool) → (is_out (with_out xs o) i ≡ true → is_out (o ∷ xs) i ≡ true)
+out_gains_case : (i : ℕ) (o x : Unacked) (xs : List Unacked) (lower same : Bool) → (is_out (with_out xs o) i ≡ true → is_out (o ∷ xs) i ≡ true)
     → is_out (if lower then o ∷ x ∷ xs else if same then o ∷ xs else x ∷ with_out xs o) i ≡ true → is_out (o ∷ x ∷ xs) i ≡ true
 out_gains_case i o x xs true same rest h = h
 out_gains_case i o x xs false true rest h = or_cases (o.index == i) _ h (or_left (o.index == i) _) (λ e. or_right (o.index == i) _ (or_right (x.index == i) _ e))
@@ -53,18 +44,18 @@ out_gains_case i o x xs false false rest h =
     (λ e. or_cases (o.index == i) _ (rest e) (or_left (o.index == i) _) (λ f. or_right (o.index == i) _ (or_right (x.index == i) _ f)))
 
 -- one more index is out
-pub out_gains : (i : ℕ) (o : Outstanding) (os : List Outstanding) → is_out (with_out os o) i ≡ true → is_out (o ∷ os) i ≡ true
+pub out_gains : (i : ℕ) (o : Unacked) (os : List Unacked) → is_out (with_out os o) i ≡ true → is_out (o ∷ os) i ≡ true
 out_gains i o [] h = h
 out_gains i o (x ∷ xs) h = out_gains_case i o x xs (nat_lt o.index x.index) (x.index == o.index) (out_gains i o xs) h
 
-left_out_case : (c : List ℕ) (i : ℕ) (o : Outstanding) (ps : List Outstanding) (b : Bool) → has c o.index ≡ b → (is_out ps i ≡ true → has c i ≡ false) → is_out (if not b then o ∷ ps else ps) i ≡ true → has c i ≡ false
+left_out_case : (c : List ℕ) (i : ℕ) (o : Unacked) (ps : List Unacked) (b : Bool) → has c o.index ≡ b → (is_out ps i ≡ true → has c i ≡ false) → is_out (if not b then o ∷ ps else ps) i ≡ true → has c i ≡ false
 left_out_case c i o ps true e rest h = rest h
 left_out_case c i o ps false e rest h = or_cases (o.index == i) _ h (λ same. let at : o.index ≡ i = grind (arith, nat_tests) in rw at at e) rest
 
 -- what is out and not acknowledged is not acknowledged
-pub left_out : (c : List ℕ) (i : ℕ) (os : List Outstanding) → is_out (filter (λ (o : Outstanding). not (has c o.index)) os) i ≡ true → has c i ≡ false
+pub left_out : (c : List ℕ) (i : ℕ) (os : List Unacked) → is_out (filter (λ (o : Unacked). not (has c o.index)) os) i ≡ true → has c i ≡ false
 left_out c i [] h = absurd (cc)
-left_out c i (o ∷ os) h = left_out_case c i o (filter (λ (o : Outstanding). not (has c o.index)) os) (has c o.index) refl (left_out c i os) h
+left_out c i (o ∷ os) h = left_out_case c i o (filter (λ (o : Unacked). not (has c o.index)) os) (has c o.index) refl (left_out c i os) h
 
 left_due_case : (c : List ℕ) (i x : ℕ) (ys : List ℕ) (b : Bool) → has c x ≡ b → (has ys i ≡ true → has c i ≡ false) → has (if not b then x ∷ ys else ys) i ≡ true → has c i ≡ false
 left_due_case c i x ys true e rest h = rest h
@@ -79,11 +70,11 @@ pub due_gains : (i : ℕ) (due more : List ℕ) → has (with_indexes due more) 
 due_gains i due more h = rw (sym (has_with_indexes due more i)) h
 
 -- two tests that agree on what is out leave the same out
-pub out_same : (p q : ℕ → Bool) (os : List Outstanding) → ((i : ℕ) → is_out os i ≡ true → p i ≡ q i) → filter (λ (o : Outstanding). p o.index) os ≡ filter (λ (o : Outstanding). q o.index) os
+pub out_same : (p q : ℕ → Bool) (os : List Unacked) → ((i : ℕ) → is_out os i ≡ true → p i ≡ q i) → filter (λ (o : Unacked). p o.index) os ≡ filter (λ (o : Unacked). q o.index) os
 out_same p q [] h = refl
 out_same p q (o ∷ os) h =
-    ap (λ (b : Bool). if b then o ∷ filter (λ (o : Outstanding). p o.index) os else filter (λ (o : Outstanding). p o.index) os) (h o.index (or_left (o.index == o.index) _ (itself o.index)))
-    ∙ ap (λ (ps : List Outstanding). if q o.index then o ∷ ps else ps) (out_same p q os (λ i e. h i (or_right (o.index == i) _ e)))
+    ap (λ (b : Bool). if b then o ∷ filter (λ (o : Unacked). p o.index) os else filter (λ (o : Unacked). p o.index) os) (h o.index (or_left (o.index == o.index) _ (itself o.index)))
+    ∙ ap (λ (ps : List Unacked). if q o.index then o ∷ ps else ps) (out_same p q os (λ i e. h i (or_right (o.index == i) _ e)))
 
 pub due_same : (p q : ℕ → Bool) (xs : List ℕ) → ((i : ℕ) → has xs i ≡ true → p i ≡ q i) → filter p xs ≡ filter q xs
 due_same p q [] h = refl
@@ -91,7 +82,7 @@ due_same p q (x ∷ xs) h =
     ap (λ (b : Bool). if b then x ∷ filter p xs else filter p xs) (h x (or_left (x == x) _ (itself x)))
     ∙ ap (λ (ys : List ℕ). if q x then x ∷ ys else ys) (due_same p q xs (λ i e. h i (or_right (x == i) _ e)))
 
-pub all_out : (os : List Outstanding) → filter (λ (o : Outstanding). true) os ≡ os
+pub all_out : (os : List Unacked) → filter (λ (o : Unacked). true) os ≡ os
 all_out [] = refl
 all_out (o ∷ os) = ap (λ ps. o ∷ ps) (all_out os)
 

@@ -4,11 +4,11 @@ use Rattle.std.specs.Prelude.{nat_le, not, ◌||◌, if◌then◌else◌}
 use Rattle.std.specs.List.{filter}
 use Rattle.std.proofs.lemmas.Bool.Decides.{nat_tests}
 use Rattle.geo_base.specs.declared.consumer.Consumer.{Consumer}
-use Rattle.geo_base.specs.declared.consumer.Outstanding.{Outstanding}
+use Rattle.geo_base.specs.declared.consumer.Unacked.{Unacked}
 use Rattle.geo_base.specs.declared.frame.SubKind.{SubKind}
 use Rattle.geo_base.specs.declared.frame.SubKind.TheVariants as sub_kind
 use Rattle.geo_base.specs.Cursor.{below, has, with_indexes}
-use Rattle.geo_base.specs.Dispatcher.{consumer_at, given, passed_index, with_out}
+use Rattle.geo_base.specs.Dispatcher.{consumer_at, given, skipped_index, with_out}
 use Rattle.geo_base.specs.Subscription.{attached, cleared, detached, forgotten, out_with}
 use Rattle.cursor_acks.proofs.Sets.{has_up_to, has_with_indexes}
 use Rattle.dispatcher.specs.Dispatch.{Dispatch, dispatch_of, sub_with, without_indexes, without_to}
@@ -16,10 +16,7 @@ use Rattle.broker_subs.specs.Fresh.{SubHolds, held, is_held, noted}
 use Rattle.broker_subs.specs.declared.fresh.Fresh.{Fresh}
 use Rattle.broker_subs.specs.declared.fresh.Fresh.TheVariants as fresh
 use Rattle.broker_subs.proofs.Held.{all_due, all_out, due_gains, due_left, due_same, is_out, left_due, left_out, or_cases, or_left, or_right, out_gains, out_left, out_same}
-
-told_nothing : (b : Bool) → not b ≡ true → b ≡ false
-told_nothing true h = absurd (cc)
-told_nothing false h = refl
+use Rattle.geo_base.proofs.Bools.{not_true_false}
 
 told_by : (a b : Bool) → (if a then b else not b) ≡ true → a ≡ b
 told_by true true h = refl
@@ -41,7 +38,7 @@ holds_any kind cursor cursor' d f h = record { kinds = h.kinds; told = λ i held
 pub holds_each : (kind : SubKind) (cursor : List ℕ) (d : Dispatch) (f : Fresh) (is : List ℕ) → SubHolds kind cursor d f → SubHolds kind (with_indexes cursor is) d (noted f (fresh.Each is))
 holds_each kind cursor d fresh.Nothing is h = record {
   kinds = h.kinds;
-  told = λ i held. either_is (has is i) (has cursor i) (has (with_indexes cursor is) i) (has_with_indexes cursor is i) (told_nothing (has cursor i) (h.told i held));
+  told = λ i held. either_is (has is i) (has cursor i) (has (with_indexes cursor is) i) (has_with_indexes cursor is i) (not_true_false (has cursor i) (h.told i held));
 }
 holds_each kind cursor d (fresh.Each js) is h = holds_any kind cursor (with_indexes cursor is) d (fresh.Each js) h
 holds_each kind cursor d (fresh.To k) is h = holds_any kind cursor (with_indexes cursor is) d (fresh.To k) h
@@ -51,7 +48,7 @@ holds_each kind cursor d fresh.Any is h = holds_any kind cursor (with_indexes cu
 pub holds_to : (kind : SubKind) (cursor : List ℕ) (d : Dispatch) (f : Fresh) (k : ℕ) → SubHolds kind cursor d f → SubHolds kind (with_indexes cursor (below (k + 1))) d (noted f (fresh.To k))
 holds_to kind cursor d fresh.Nothing k h = record {
   kinds = h.kinds;
-  told = λ i held. either_is (nat_le i k) (has cursor i) (has (with_indexes cursor (below (k + 1))) i) (has_up_to cursor k i) (told_nothing (has cursor i) (h.told i held));
+  told = λ i held. either_is (nat_le i k) (has cursor i) (has (with_indexes cursor (below (k + 1))) i) (has_up_to cursor k i) (not_true_false (has cursor i) (h.told i held));
 }
 holds_to kind cursor d (fresh.Each js) k h = holds_any kind cursor (with_indexes cursor (below (k + 1))) d (fresh.Each js) h
 holds_to kind cursor d (fresh.To j) k h = holds_any kind cursor (with_indexes cursor (below (k + 1))) d (fresh.To j) h
@@ -74,10 +71,10 @@ pub holds_attached : (kind : SubKind) (cursor : List ℕ) (d : Dispatch) (f : Fr
 holds_attached kind cursor d f k h = record { kinds = λ n. refl; told = h.told }
 
 -- what is out or due again after an index was passed was so before
-held_passed : (i j : ℕ) (d : Dispatch) → is_held (dispatch_of (passed_index i (sub_with [] d))) j ≡ true → is_held d j ≡ true
+held_passed : (i j : ℕ) (d : Dispatch) → is_held (dispatch_of (skipped_index i (sub_with [] d))) j ≡ true → is_held d j ≡ true
 held_passed i j d h = or_cases (is_out d.out j) _ h (or_left (is_out d.out j) _) (λ e. or_right (is_out d.out j) _ (due_left (λ x. not (x == i)) j d.due e))
 
-pub holds_passed : (kind : SubKind) (cursor : List ℕ) (d : Dispatch) (f : Fresh) (i : ℕ) → SubHolds kind cursor d f → SubHolds kind cursor (dispatch_of (passed_index i (sub_with [] d))) f
+pub holds_passed : (kind : SubKind) (cursor : List ℕ) (d : Dispatch) (f : Fresh) (i : ℕ) → SubHolds kind cursor d f → SubHolds kind cursor (dispatch_of (skipped_index i (sub_with [] d))) f
 holds_passed kind cursor d f i h = record { kinds = h.kinds; told = λ j held. h.told j (held_passed i j d held) }
 
 -- what is out or due again after an index was given was so before, or is the index
@@ -113,8 +110,8 @@ holds_given kind cursor d fresh.Any i at within h = given_any kind cursor d fres
 told_detached : (c j : ℕ) (cursor : List ℕ) (d : Dispatch) → (is_held d j ≡ true → not (has cursor j) ≡ true) → is_held (dispatch_of (detached c (sub_with cursor d))) j ≡ true → not (has cursor j) ≡ true
 told_detached c j cursor d told h =
     let more : List ℕ = filter (λ i. not (has cursor i)) (out_with c d.out) in
-    or_cases (is_out (filter (λ (o : Outstanding). not (o.client == c)) d.out) j) _ h
-    (λ e. told (or_left (is_out d.out j) _ (out_left (λ (o : Outstanding). not (o.client == c)) j d.out e)))
+    or_cases (is_out (filter (λ (o : Unacked). not (o.client == c)) d.out) j) _ h
+    (λ e. told (or_left (is_out d.out j) _ (out_left (λ (o : Unacked). not (o.client == c)) j d.out e)))
     (λ e. or_cases (has more j) _ (due_gains j d.due more e) (λ new. ap not (left_due cursor j (out_with c d.out) new)) (λ old. told (or_right (is_out d.out j) _ old)))
 
 -- some consumers were there, if some stay
@@ -136,13 +133,13 @@ holds_detached kind cursor d fresh.Any c h = detached_any kind cursor d fresh.An
 
 -- forgetting just some indexes forgets what is acknowledged, where a test tells it of all that is out or due again
 forgets_by : (cursor : List ℕ) (d : Dispatch) (p : ℕ → Bool) → ((i : ℕ) → is_held d i ≡ true → p i ≡ has cursor i)
-    → (record d { out = filter (λ (o : Outstanding). not (p o.index)) d.out; due = filter (λ i. not (p i)) d.due }) ≡ dispatch_of (forgotten (sub_with cursor d))
+    → (record d { out = filter (λ (o : Unacked). not (p o.index)) d.out; due = filter (λ i. not (p i)) d.due }) ≡ dispatch_of (forgotten (sub_with cursor d))
 forgets_by cursor d p h =
     let same : (i : ℕ) → is_held d i ≡ true → not (p i) ≡ not (has cursor i) = λ i held. ap not (h i held) in
     let outs = out_same (λ i. not (p i)) (λ i. not (has cursor i)) d.out (λ i e. same i (or_left _ _ e)) in
     let dues = due_same (λ i. not (p i)) (λ i. not (has cursor i)) d.due (λ i e. same i (or_right _ _ e)) in
-    ap (λ (os : List Outstanding). record d { out = os; due = filter (λ i. not (p i)) d.due }) outs
-    ∙ ap (λ (is : List ℕ). record d { out = filter (λ (o : Outstanding). not (has cursor o.index)) d.out; due = is }) dues
+    ap (λ (os : List Unacked). record d { out = os; due = filter (λ i. not (p i)) d.due }) outs
+    ∙ ap (λ (is : List ℕ). record d { out = filter (λ (o : Unacked). not (has cursor o.index)) d.out; due = is }) dues
 
 pub forgets_to : (kind : SubKind) (cursor : List ℕ) (d : Dispatch) (k : ℕ) → SubHolds kind cursor d (fresh.To k) → without_to k d ≡ dispatch_of (forgotten (sub_with cursor d))
 forgets_to kind cursor d k h = forgets_by cursor d (λ i. nat_le i k) (λ i held. told_by (nat_le i k) (has cursor i) (h.told i held))
@@ -153,9 +150,9 @@ forgets_each kind cursor d is h = forgets_by cursor d (has is) (λ i held. told_
 -- where nothing acknowledged is left, nothing is to be forgotten
 pub forgets_nothing : (kind : SubKind) (cursor : List ℕ) (d : Dispatch) → SubHolds kind cursor d fresh.Nothing → d ≡ dispatch_of (forgotten (sub_with cursor d))
 forgets_nothing kind cursor d h =
-    ap (λ (os : List Outstanding). record d { out = os }) (sym (all_out d.out))
-    ∙ ap (λ (is : List ℕ). record d { out = filter (λ (o : Outstanding). true) d.out; due = is }) (sym (all_due d.due))
-    ∙ forgets_by cursor d (λ i. false) (λ i held. sym (told_nothing (has cursor i) (h.told i held)))
+    ap (λ (os : List Unacked). record d { out = os }) (sym (all_out d.out))
+    ∙ ap (λ (is : List ℕ). record d { out = filter (λ (o : Unacked). true) d.out; due = is }) (sym (all_due d.due))
+    ∙ forgets_by cursor d (λ i. false) (λ i held. sym (not_true_false (has cursor i) (h.told i held)))
 
 -- after that nothing acknowledged is left
 pub holds_forgotten : (kind : SubKind) (cursor : List ℕ) (d : Dispatch) (f : Fresh) → SubHolds kind cursor d f → SubHolds kind cursor (dispatch_of (forgotten (sub_with cursor d))) fresh.Nothing

@@ -1,7 +1,7 @@
 -- What a write of a cursor leaves to be forgotten.
 use Rattle.std.specs.Prelude.{◌≡◌, ℕ, ◌<◌, nat_le, Bool, true, false, not, ◌==◌, ◌||◌, if◌then◌else◌, List, length}
 use Rattle.std.specs.List.{list_any}
-use Rattle.geo_base.specs.declared.consumer.Outstanding.{Outstanding}
+use Rattle.geo_base.specs.declared.consumer.Unacked.{Unacked}
 use Rattle.geo_base.specs.declared.frame.SubKind.{SubKind}
 use Rattle.geo_base.specs.Cursor.{has}
 use Rattle.dispatcher.specs.Dispatch.{Dispatch}
@@ -32,7 +32,7 @@ held acked fresh.Any = fresh.Any
 
 -- an index that is out, or is due again
 abbrev pub is_held : Dispatch → ℕ → Bool
-is_held d i = list_any (λ (o : Outstanding). o.index == i) d.out || has d.due i
+is_held d i = list_any (λ (o : Unacked). o.index == i) d.out || has d.due i
 
 -- the dispatcher is of the subscription's kind where it has consumers, and what is told of each index that is out or due is so
 pub record SubHolds (kind : SubKind) (cursor : List ℕ) (d : Dispatch) (f : Fresh) : Type 0 where

@@ -1,4 +1,4 @@
-pub mod SubBook
+pub mod SubView
 pub mod Fresh
 pub mod Steps
 pub mod Table

@@ -1,7 +1,7 @@
 //! What a change in memory does to a subscription.
 ghost use Rattle.std.specs.Prelude.{◌≡◌, ◌≤◌, ◌<◌, ◌+◌, ◌^◌, length};
 ghost use Rattle.geo_base.specs.Cache.{cached};
-ghost use Rattle.geo_base.specs.Dispatcher.{given, passed_index};
+ghost use Rattle.geo_base.specs.Dispatcher.{given, skipped_index};
 ghost use Rattle.geo_base.specs.Subscription.{after_acks, attached, cleared, detached, permitted};
 ghost use Rattle.broker_subs.specs.Steps.{SubChangeFits, room_needed, sub_changed};
 
@@ -17,9 +17,9 @@ pub enum SubChange {
     /// A client's consumers gain permits.
     Permit { client: u32, permits: u64 },
     /// An index was offered to no consumer, being a marker's.
-    Passed(u64),
+    Skipped(u64),
     /// An index was given to the consumer at a place in the order.
-    Given { index: u64, place: usize },
+    Given { index: u64, consumer_index: usize },
     /// A snapshot enters the cache.
     Cache(CachedSnapshot),
     /// The cursor was written: nothing acknowledged is out or due, and the cache gives up what the mark has passed.
@@ -40,8 +40,11 @@ impl Sub {
         match change {
             SubChange::Attach(consumer) => self.attach(consumer),
             SubChange::Permit { client, permits } => self.dispatcher.permit(client, permits),
-            SubChange::Passed(index) => self.pass(index),
-            SubChange::Given { index, place } => self.give(index, place),
+            SubChange::Skipped(index) => self.skip(index),
+            SubChange::Given {
+                index,
+                consumer_index,
+            } => self.give(index, consumer_index),
             SubChange::Cache(snapshot) => self.cache.add(snapshot.index, snapshot.cut),
             SubChange::Acked => self.forget_acked(),
             SubChange::Cleared => self.clear(),
@@ -59,25 +62,25 @@ impl Sub {
     }
 
     #[tactic(auto, using(crate::proofs::Told::holds_passed))]
-    fn pass(&mut self, index: u64)
+    fn skip(&mut self, index: u64)
         requires { index + 1 < 2 ^ 64 }
-        ensures { self.new ≡ record self.old { sub = passed_index index self.old.sub } }
+        ensures { self.new ≡ record self.old { sub = skipped_index index self.old.sub } }
     {
-        self.dispatcher.pass(index);
+        self.dispatcher.skip(index);
     }
 
     /// Where nothing acknowledged was left, that stays so unless the index is acknowledged.
     #[tactic(auto, using(crate::proofs::Told::holds_given))]
-    fn give(&mut self, index: u64, place: usize)
+    fn give(&mut self, index: u64, consumer_index: usize)
         requires room { 0 < self.old.room }
         requires index { index + 1 < 2 ^ 64 }
-        requires place { place < length self.old.sub.consumers }
-        ensures sub { self.new.sub ≡ given index place self.old.sub }
+        requires consumer_index { consumer_index < length self.old.sub.consumers }
+        ensures sub { self.new.sub ≡ given index consumer_index self.old.sub }
         ensures room { self.new.room + 1 ≡ self.old.room }
         ensures acks { self.new.acks ≡ self.old.acks }
     {
         hold(&mut self.fresh, self.durable.cursor.is_acked(index));
-        self.dispatcher.give(index, place);
+        self.dispatcher.give(index, consumer_index);
     }
 
     /// A client's consumers leave, if it has any here, and what was out with them and is not acknowledged is due again. It takes no

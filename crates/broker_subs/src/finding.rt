@@ -4,7 +4,7 @@ ghost use Rattle.std.specs.List.{list_any};
 ghost use Rattle.geo_base.specs.Broker.{sub_named};
 ghost use Rattle.geo_base.specs.Subscribing.{consumed_by};
 ghost use Rattle.geo_base.specs.Subscription.{Subscription, is_attached};
-ghost use Rattle.broker_subs.specs.SubBook.{subs_of};
+ghost use Rattle.broker_subs.specs.SubView.{subs_of};
 
 use crate::sub::Sub;
 use crate::table::SubTable;
@@ -46,9 +46,9 @@ fn find(subs: &[Sub], name: &[u8]) -> Option<usize>
     ensures { MatchOption result (sub_named (subs_of subs.now) name.now ≡ None)
         (λ k. (k < length subs.now) × (sub_named (subs_of subs.now) name.now ≡ slice_get (subs_of subs.now) k)) }
 {
-    for place in 0..subs.len() {
-        if subs[place].name().as_str().as_bytes() == name {
-            return Some(place);
+    for sub_index in 0..subs.len() {
+        if subs[sub_index].name().as_str().as_bytes() == name {
+            return Some(sub_index);
         }
     }
     None
@@ -59,9 +59,9 @@ fn find_consumer(subs: &[Sub], client: u32, id: u64) -> Option<usize>
     ensures { MatchOption result (consumed_by (subs_of subs.now) client id ≡ None)
         (λ k. (k < length subs.now) × (consumed_by (subs_of subs.now) client id ≡ slice_get (subs_of subs.now) k)) }
 {
-    for place in 0..subs.len() {
-        if subs[place].has_consumer(client, id) {
-            return Some(place);
+    for sub_index in 0..subs.len() {
+        if subs[sub_index].has_consumer(client, id) {
+            return Some(sub_index);
         }
     }
     None

@@ -5,9 +5,8 @@ ghost use Rattle.dispatcher.specs.Dispatch.{dispatch_of, sub_with};
 ghost use Rattle.broker_subs.specs.Fresh.{SubHolds, held, noted};
 
 use cursor_acks::Cursor;
-use dispatcher::Dispatcher;
+use dispatcher::{Dispatcher, KeyPick};
 use geo_base::Sequence;
-use key_shared::KeyPick;
 
 /// Which indexes the last write of a cursor added, that may still be out or due: an acknowledgement is forgotten at the cost of
 /// what it names, and not by going over all that is out.

@@ -2,7 +2,7 @@
 ghost use Rattle.std.specs.Prelude.{◌≡◌, ◌++◌, ◌∷◌, [], map, IfOk, OnOk};
 ghost use Rattle.geo_base.specs.Subscription.{cleared};
 ghost use Rattle.durable_parts.specs.Parts as durable;
-ghost use Rattle.broker_subs.specs.SubBook.{subs_of};
+ghost use Rattle.broker_subs.specs.SubView.{subs_of};
 
 use crate::sub::Sub;
 use crate::table::SubTable;
@@ -16,8 +16,8 @@ impl SubTable {
         ensures { IfOk result (λ d. d ≡ map cleared (subs_of self.now.subs)) }
     {
         let mut parts = DurableSubs::new(alloc);
-        for place in 0..self.subs.len() {
-            parts.add(self.subs[place].durable().copy(alloc)?)?;
+        for sub_index in 0..self.subs.len() {
+            parts.add(self.subs[sub_index].durable().copy(alloc)?)?;
         }
         Ok(parts)
     }

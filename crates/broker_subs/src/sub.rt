@@ -7,15 +7,14 @@ ghost use Rattle.dispatcher.specs.Acks.{ack_answer};
 ghost use Rattle.dispatcher.specs.Dispatch.{dispatch_of, turns_away};
 ghost use Rattle.dispatcher.specs.Offers.{ChoiceFits, choice};
 ghost use Rattle.durable_parts.specs.Parts as durable;
-ghost use Rattle.broker_subs.specs.SubBook.{durable_of};
+ghost use Rattle.broker_subs.specs.SubView.{durable_of};
 
 use crate::fresh::Fresh;
 use cursor_acks::Cursor;
-use dispatcher::{AckFault, Choice, Dispatcher};
+use dispatcher::{AckFault, Choice, Dispatcher, KeyPick};
 use durable_parts::DurableSub;
 use geo_base::{AckKind, Consumer, EntryStore, Memory, SubKind, SubName};
-use key_shared::KeyPick;
-use snapshots::SnapshotCache;
+use replicated_subs::SnapshotCache;
 use std::alloc::Global;
 use std::marker::Model;
 
@@ -30,10 +29,10 @@ pub struct Sub {
 }
 
 impl Model for Sub {
-    ghost use Rattle.broker_subs.specs.SubBook.{SubBook};
+    ghost use Rattle.broker_subs.specs.SubView.{SubView};
     ghost use Rattle.broker_subs.specs.Fresh.{SubHolds};
 
-    ghost Value = { SubBook };
+    ghost Value = { SubView };
 
     ghost view = { λ s. record {
       sub = record { name = s.durable.name; kind = s.durable.kind; replicated = s.durable.replicated; cursor = s.durable.cursor.indexes; seeks = s.durable.seeks; consumers = s.dispatcher.dispatch.consumers; out = s.dispatcher.dispatch.out; due = s.dispatcher.dispatch.due; read_index = s.dispatcher.dispatch.read_index; cache = s.cache };

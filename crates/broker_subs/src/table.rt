@@ -6,7 +6,7 @@ ghost use Rattle.geo_base.specs.Broker.{sub_named};
 ghost use Rattle.geo_base.specs.Cursor.{below};
 ghost use Rattle.geo_base.specs.Subscription.{Subscription, cleared, detached, new_subscription};
 ghost use Rattle.broker_subs.specs.Steps.{SubChangeFits, SubWriteFits, acks_after, acks_needed, room_needed, sub_changed, sub_written};
-ghost use Rattle.broker_subs.specs.SubBook.{sub_of, subs_of};
+ghost use Rattle.broker_subs.specs.SubView.{sub_of, subs_of};
 ghost use Rattle.broker_subs.specs.Table.{at_name, is_new, names_of, room_at, rooms_of, sub_at, with_sub};
 
 use crate::changing::SubChange;
@@ -26,9 +26,9 @@ pub struct SubTable {
 
 impl Model for SubTable {
     ghost use Rattle.std.specs.Prelude.{vec_len, vec_capacity};
-    ghost use Rattle.broker_subs.specs.Table.{SubBooks, SubTableHolds};
+    ghost use Rattle.broker_subs.specs.Table.{SubsView, SubTableHolds};
 
-    ghost Value = { SubBooks };
+    ghost Value = { SubsView };
 
     ghost view = { λ t. record { subs = t.subs.items; room = t.room } };
 
@@ -55,12 +55,12 @@ impl SubTable {
 
     /// The subscription at a place.
     #[tactic(auto, using(crate::proofs::Places::sub_there, crate::proofs::Places::sub_at_place))]
-    pub fn at(&self, place: usize) -> &Sub
-        requires { place < length self.now.subs }
-        ensures at { result.now.sub ≡ sub_at (subs_of self.now.subs) place }
-        ensures sub { slice_get (subs_of self.now.subs) place ≡ Some result.now.sub }
+    pub fn at(&self, sub_index: usize) -> &Sub
+        requires { sub_index < length self.now.subs }
+        ensures at { result.now.sub ≡ sub_at (subs_of self.now.subs) sub_index }
+        ensures sub { slice_get (subs_of self.now.subs) sub_index ≡ Some result.now.sub }
     {
-        &self.subs[place]
+        &self.subs[sub_index]
     }
 
     /// Makes room for so many more subscriptions; for none where memory is wanting.
@@ -78,16 +78,16 @@ impl SubTable {
     /// Makes room at a place: for so many consumers that join and indexes that are given, and for at least so many acknowledged
     /// indexes. Where memory is wanting there is room for as many of the former as before, and for no fewer of the latter.
     #[tactic(auto, using(crate::proofs::Places::same_subs, crate::proofs::Places::names_kept, crate::proofs::Places::room_at_place, crate::proofs::Places::room_set))]
-    pub fn reserve_at(&mut self, place: usize, room: usize, acks: usize) -> Result<(), Memory>
-        requires { place < length self.old.subs }
+    pub fn reserve_at(&mut self, sub_index: usize, room: usize, acks: usize) -> Result<(), Memory>
+        requires { sub_index < length self.old.subs }
         ensures same { subs_of self.new.subs ≡ subs_of self.old.subs }
         ensures places { self.new.room ≡ self.old.room }
-        ensures room { OnOk result ((room_at (rooms_of self.new.subs) place).room ≡ room) }
-        ensures acks { OnOk result (acks ≤ (room_at (rooms_of self.new.subs) place).acks) }
-        ensures more { (room_at (rooms_of self.old.subs) place).acks ≤ (room_at (rooms_of self.new.subs) place).acks }
-        ensures err { OnErr result ((room_at (rooms_of self.new.subs) place).room ≡ (room_at (rooms_of self.old.subs) place).room) }
+        ensures room { OnOk result ((room_at (rooms_of self.new.subs) sub_index).room ≡ room) }
+        ensures acks { OnOk result (acks ≤ (room_at (rooms_of self.new.subs) sub_index).acks) }
+        ensures more { (room_at (rooms_of self.old.subs) sub_index).acks ≤ (room_at (rooms_of self.new.subs) sub_index).acks }
+        ensures err { OnErr result ((room_at (rooms_of self.new.subs) sub_index).room ≡ (room_at (rooms_of self.old.subs) sub_index).room) }
     {
-        self.subs[place].reserve(room, acks)
+        self.subs[sub_index].reserve(room, acks)
     }
 
     /// One more subscription, last in order; at Latest all of so many entries are acknowledged.
@@ -107,40 +107,40 @@ impl SubTable {
     }
 
     /// The subscription at a place is no more.
-    pub fn delete(&mut self, place: usize)
-        requires { place < length self.old.subs }
-        ensures subs { subs_of self.new.subs ≡ filter (λ (s : Subscription). not (bytes_eq s.name (sub_at (subs_of self.old.subs) place).name)) (subs_of self.old.subs) }
-        ensures names { names_of (subs_of self.new.subs) ≡ remove (names_of (subs_of self.old.subs)) place }
+    pub fn delete(&mut self, sub_index: usize)
+        requires { sub_index < length self.old.subs }
+        ensures subs { subs_of self.new.subs ≡ filter (λ (s : Subscription). not (bytes_eq s.name (sub_at (subs_of self.old.subs) sub_index).name)) (subs_of self.old.subs) }
+        ensures names { names_of (subs_of self.new.subs) ≡ remove (names_of (subs_of self.old.subs)) sub_index }
         ensures places { self.new.room ≡ self.old.room }
     {
-        drop(self.subs.remove(place));
+        drop(self.subs.remove(sub_index));
     }
 
     /// Does a durable write at a place, in the topic of a store.
-    pub fn write<S: EntryStore>(&mut self, place: usize, write: SubWrite, store: &S)
-        requires place { place < length self.old.subs }
-        requires acks { acks_needed write ≤ (room_at (rooms_of self.old.subs) place).acks }
-        requires fits { SubWriteFits (S.entries store.now) (sub_at (subs_of self.old.subs) place) write }
-        ensures subs { subs_of self.new.subs ≡ at_name (sub_at (subs_of self.old.subs) place).name (sub_written (S.entries store.now) write) (subs_of self.old.subs) }
+    pub fn write<S: EntryStore>(&mut self, sub_index: usize, write: SubWrite, store: &S)
+        requires sub_index { sub_index < length self.old.subs }
+        requires acks { acks_needed write ≤ (room_at (rooms_of self.old.subs) sub_index).acks }
+        requires fits { SubWriteFits (S.entries store.now) (sub_at (subs_of self.old.subs) sub_index) write }
+        ensures subs { subs_of self.new.subs ≡ at_name (sub_at (subs_of self.old.subs) sub_index).name (sub_written (S.entries store.now) write) (subs_of self.old.subs) }
         ensures places { self.new.room ≡ self.old.room }
-        ensures room { (room_at (rooms_of self.new.subs) place).room ≡ (room_at (rooms_of self.old.subs) place).room }
-        ensures acks { acks_after (room_at (rooms_of self.old.subs) place).acks write ≤ (room_at (rooms_of self.new.subs) place).acks }
+        ensures room { (room_at (rooms_of self.new.subs) sub_index).room ≡ (room_at (rooms_of self.old.subs) sub_index).room }
+        ensures acks { acks_after (room_at (rooms_of self.old.subs) sub_index).acks write ≤ (room_at (rooms_of self.new.subs) sub_index).acks }
         ensures names { names_of (subs_of self.new.subs) ≡ names_of (subs_of self.old.subs) }
     {
-        self.subs[place].write(write, store);
+        self.subs[sub_index].write(write, store);
     }
 
     /// Makes a change in memory at a place.
-    pub fn change(&mut self, place: usize, change: SubChange)
-        requires place { place < length self.old.subs }
-        requires room { room_needed change ≤ (room_at (rooms_of self.old.subs) place).room }
-        requires fits { SubChangeFits (sub_at (subs_of self.old.subs) place) change }
-        ensures subs { subs_of self.new.subs ≡ at_name (sub_at (subs_of self.old.subs) place).name (sub_changed change) (subs_of self.old.subs) }
+    pub fn change(&mut self, sub_index: usize, change: SubChange)
+        requires sub_index { sub_index < length self.old.subs }
+        requires room { room_needed change ≤ (room_at (rooms_of self.old.subs) sub_index).room }
+        requires fits { SubChangeFits (sub_at (subs_of self.old.subs) sub_index) change }
+        ensures subs { subs_of self.new.subs ≡ at_name (sub_at (subs_of self.old.subs) sub_index).name (sub_changed change) (subs_of self.old.subs) }
         ensures places { self.new.room ≡ self.old.room }
-        ensures room { (room_at (rooms_of self.old.subs) place).room ≡ (room_at (rooms_of self.new.subs) place).room + room_needed change }
+        ensures room { (room_at (rooms_of self.old.subs) sub_index).room ≡ (room_at (rooms_of self.new.subs) sub_index).room + room_needed change }
         ensures names { names_of (subs_of self.new.subs) ≡ names_of (subs_of self.old.subs) }
     {
-        self.subs[place].change(change);
+        self.subs[sub_index].change(change);
     }
 
     /// A client's consumers leave, wherever it has any.

@@ -3,8 +3,8 @@ ghost use Rattle.std.specs.Prelude.{◌≡◌, ◌≤◌, ◌<◌, ◌+◌, ◌^
 ghost use Rattle.std.specs.List.{All};
 ghost use Rattle.geo_base.specs.Cursor.{below, with_indexes};
 ghost use Rattle.geo_base.specs.Subscription.{sought, with_acks};
-ghost use Rattle.geo_base.specs.Updating.{passed_over};
-ghost use Rattle.sub_update.specs.Alone.{alone};
+ghost use Rattle.geo_base.specs.Updating.{updated_indexes};
+ghost use Rattle.replicated_subs.specs.Alone.{alone};
 ghost use Rattle.broker_subs.specs.Steps.{SubWriteFits, acks_after, acks_needed, sub_written};
 
 use crate::fresh::{Fresh, note};
@@ -20,7 +20,7 @@ pub enum SubWrite {
     /// The cursor gains all indexes up to one.
     AckTo(u64),
     /// The cursor gains what an update of a cluster passes over up to an index, which stand alone at most so often.
-    Passed { index: u64, from: u32, runs: usize },
+    UpdateTo { index: u64, from: u32, runs: usize },
     /// The cursor becomes all below an index.
     Seek(u64),
     /// The kind is another, or it is marked replicated.
@@ -40,7 +40,7 @@ impl Sub {
         match write {
             SubWrite::Acks(indexes) => self.acknowledge(indexes, len),
             SubWrite::AckTo(index) => self.acknowledge_to(index, len),
-            SubWrite::Passed { index, from, .. } => self.pass_over(store, index, from),
+            SubWrite::UpdateTo { index, from, .. } => self.update_to(store, index, from),
             SubWrite::Seek(index) => self.seek(index, len),
             SubWrite::Alter { kind, replicated } => self.alter(kind, replicated),
         }
@@ -74,13 +74,13 @@ impl Sub {
     }
 
     #[tactic(auto, using(crate::proofs::Told::holds_any))]
-    fn pass_over<S: EntryStore>(&mut self, store: &S, index: u64, from: u32)
-        requires acks { alone self.old.sub.cursor (passed_over from 0 (index + 1) (S.entries store.now)) ≤ self.old.acks }
+    fn update_to<S: EntryStore>(&mut self, store: &S, index: u64, from: u32)
+        requires acks { alone self.old.sub.cursor (updated_indexes from 0 (index + 1) (S.entries store.now)) ≤ self.old.acks }
         requires within { index < length (S.entries store.now) }
-        ensures sub { self.new.sub ≡ with_acks (passed_over from 0 (index + 1) (S.entries store.now)) self.old.sub }
+        ensures sub { self.new.sub ≡ with_acks (updated_indexes from 0 (index + 1) (S.entries store.now)) self.old.sub }
         ensures room { self.new.room ≡ self.old.room }
     {
-        match sub_update::apply(&mut self.durable.cursor, store, index, from) {
+        match replicated_subs::apply(&mut self.durable.cursor, store, index, from) {
             Ok(()) => {}
             Err(_) => unreachable!(),
         }

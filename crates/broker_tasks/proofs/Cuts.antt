@@ -3,8 +3,8 @@ use Rattle.std.proofs.Common.{◌≡◌, ◌∙◌, ℕ, Bool, true, false, List
 use Rattle.std.specs.Prelude.{◌==◌, if◌then◌else◌, Option, Some, None, replicate, slice_set}
 use Rattle.std.proofs.lemmas.List.{length-replicate, length-set}
 use Rattle.geo_base.specs.declared.marker.ClusterPosition.{ClusterPosition}
-use Rattle.geo_base.specs.declared.marker.Place.{Place}
-use Rattle.geo_base.specs.declared.marker.Place.TheVariants as place
+use Rattle.geo_base.specs.declared.marker.ClusterRef.{ClusterRef}
+use Rattle.geo_base.specs.declared.marker.ClusterRef.TheVariants as cluster_ref
 use Rattle.geo_base.specs.declared.position.Position.{Position}
 use Rattle.geo_base.specs.Cache.{with_place, with_places}
 
@@ -12,9 +12,9 @@ either : (n : ℕ) (b : Bool) (ps qs : List (Option Position)) → length ps ≡
 either n true ps qs hp hq = hp
 either n false ps qs hp hq = hq
 
-one_place : (own : ℕ) (p : Place) (q : Position) (ps : List (Option Position)) → length (with_place own p q ps) ≡ length ps
-one_place own (place.Known x) q ps = either (length ps) (x == own) ps (slice_set ps x (Some q)) refl (length-set ps x (Some q))
-one_place own (place.Stranger n) q ps = refl
+one_place : (own : ℕ) (p : ClusterRef) (q : Position) (ps : List (Option Position)) → length (with_place own p q ps) ≡ length ps
+one_place own (cluster_ref.Known x) q ps = either (length ps) (x == own) ps (slice_set ps x (Some q)) refl (length-set ps x (Some q))
+one_place own (cluster_ref.Stranger n) q ps = refl
 
 all_places : (own : ℕ) (ps : List (Option Position)) (rs : List ClusterPosition) → length (with_places own ps rs) ≡ length ps
 all_places own ps [] = refl

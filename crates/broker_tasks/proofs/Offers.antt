@@ -10,7 +10,7 @@ use Rattle.geo_base.specs.Broker.{Broker, Site, sub_named}
 use Rattle.geo_base.specs.Cache.{cached, most_cached}
 use Rattle.geo_base.specs.Dispatcher.{consumer_at, pick}
 use Rattle.geo_base.specs.Name.{is_name}
-use Rattle.geo_base.specs.Offering.{message, offer, own_snapshot, passes_by}
+use Rattle.geo_base.specs.Offering.{message, offer, own_snapshot, skips_marker}
 use Rattle.geo_base.specs.Plan.{Plan, idle_plan, unless_found}
 use Rattle.geo_base.specs.Subscription.{Subscription}
 use Rattle.dispatcher.specs.declared.offering.Choice.{Choice}
@@ -21,8 +21,8 @@ use Rattle.dispatcher.specs.Offers.{choice}
 use Rattle.dispatcher.proofs.Events.{offer_as_chosen}
 use Rattle.broker_subs.specs.Table.{sub_at}
 use Rattle.broker_subs.specs.declared.writing.SubWrite.TheVariants as sub_write
-use Rattle.broker_state.specs.Plan.{PlanBook}
-use Rattle.broker_state.specs.Room.{change_room, change_senders, total}
+use Rattle.broker_state.specs.Plan.{PlanView}
+use Rattle.broker_state.specs.Room.{change_room, change_replicators, total}
 use Rattle.geo_base.specs.declared.packet.WireOut.{WireOut}
 use Rattle.broker_state.specs.Site.{IsSite}
 use Rattle.broker_plans.specs.Prepared.{ArePackets, IsPrepared}
@@ -31,11 +31,11 @@ use Rattle.broker_plans.specs.Updates.{update_after}
 use Rattle.broker_plans.proofs.Packets.{stored_at}
 use Rattle.broker_plans.proofs.Places.{name_there}
 use Rattle.broker_plans.proofs.Updates.{cache_at}
-use Rattle.broker_tasks.specs.Offering.{cached_with, given_book, gives, catch_up_changes, writing_book}
+use Rattle.broker_tasks.specs.Offering.{cached_with, given_view, gives, catch_up_changes, writing_view}
 use Rattle.broker_tasks.proofs.Shapes.{gives_index, writes_cursor}
 
 -- what the dispatcher of the subscription of a name chooses
-pub chosen_prepared : {E : Type 0} (h : Site) (b : Broker) (n : List ℕ) (s : Subscription) (out now : Choice) (p : PlanBook) (r : Result (Unit {0}) E) → sub_named b.subs n ≡ Some s
+pub chosen_prepared : {E : Type 0} (h : Site) (b : Broker) (n : List ℕ) (s : Subscription) (out now : Choice) (p : PlanView) (r : Result (Unit {0}) E) → sub_named b.subs n ≡ Some s
     → out ≡ choice pick (dispatch_of s) s.cursor b.entries → out ≡ now → OnOk r (IsPrepared h b (plan_of_choice h b s now) p) → OnOk r (IsPrepared h b (offer h b n) p)
 chosen_prepared {E} h b n s out now p r is chosen same prepared =
     subst (λ (q : Plan). OnOk r (IsPrepared h b q p)) (sym (offer_as_chosen h b n s is ∙ ap (λ (c : Choice). plan_of_choice h b s c) (sym chosen ∙ same))) prepared
@@ -49,7 +49,7 @@ at_entry : (f : Entry → Plan) (o : Option Entry) (e : Entry) → o ≡ Some e 
 at_entry f o e at = sym (ap (λ (o : Option Entry). unless_found idle_plan o f) at)
 
 -- where room was made before
-pub given_from : (h g : Site) (b c : Broker) (k i at : ℕ) (e : Entry) (p : PlanBook) → g ≡ h → c ≡ b → slice_get c.entries i ≡ Some e → IsPrepared g c (gives g c (sub_at c.subs k) i at e) p
+pub given_from : (h g : Site) (b c : Broker) (k i at : ℕ) (e : Entry) (p : PlanView) → g ≡ h → c ≡ b → slice_get c.entries i ≡ Some e → IsPrepared g c (gives g c (sub_at c.subs k) i at e) p
     → IsPrepared h b (plan_of_choice h b (sub_at b.subs k) (does.Give i at)) p
 given_from h g b c k i at e p site same there prepared =
     subst (λ (f : Site). IsPrepared f b (plan_of_choice f b (sub_at b.subs k) (does.Give i at)) p) site
@@ -57,8 +57,8 @@ given_from h g b c k i at e p site same there prepared =
     (subst (λ (q : Plan). IsPrepared g c q p) (at_entry (λ (e : Entry). gives g c (sub_at c.subs k) i at e) (slice_get c.entries i) e there) prepared))
 
 -- the event that gives the message to the consumer, of whom a packet tells
-pub gives_from : (h : Site) (b : Broker) (k i at : ℕ) (e : Entry) (s : Subscription) (x : Consumer) (packet : WireOut) (p : PlanBook) → k < length b.subs → i + 1 < 2 ^ 64 → at < length (sub_at b.subs k).consumers → s ≡ sub_at b.subs k
-    → x ≡ consumer_at s.consumers at → ArePackets h.clusters (message h b i e x) (packet ∷ []) → p ≡ given_book k i at packet → IsPrepared h b (gives h b (sub_at b.subs k) i at e) p
+pub gives_from : (h : Site) (b : Broker) (k i at : ℕ) (e : Entry) (s : Subscription) (x : Consumer) (packet : WireOut) (p : PlanView) → k < length b.subs → i + 1 < 2 ^ 64 → at < length (sub_at b.subs k).consumers → s ≡ sub_at b.subs k
+    → x ≡ consumer_at s.consumers at → ArePackets h.clusters (message h b i e x) (packet ∷ []) → p ≡ given_view k i at packet → IsPrepared h b (gives h b (sub_at b.subs k) i at e) p
 gives_from h b k i at e s x packet p within next among same consumer told is =
     gives_index h b k i at e packet p within next among
     (subst (λ (y : Consumer). ArePackets h.clusters (message h b i e y) (packet ∷ [])) (consumer ∙ ap (λ (t : Subscription). consumer_at t.consumers at) same) told) is
@@ -73,12 +73,12 @@ stored_from h g b c i e site same all at = subst (λ (f : Site). IsStorable f e)
 -- ---- a marker
 
 -- it is caught up with
-pub caught_from : (h : Site) (b : Broker) (k i : ℕ) (e : Entry) (o : Option CachedSnapshot) (p : PlanBook) → slice_get b.entries i ≡ Some e → o ≡ own_snapshot h b (sub_at b.subs k) e.ident.origin e.content
-    → IsPrepared h b (passes_by h b (sub_at b.subs k) i o) p → IsPrepared h b (plan_of_choice h b (sub_at b.subs k) (does.Pass i)) p
+pub caught_from : (h : Site) (b : Broker) (k i : ℕ) (e : Entry) (o : Option CachedSnapshot) (p : PlanView) → slice_get b.entries i ≡ Some e → o ≡ own_snapshot h b (sub_at b.subs k) e.ident.origin e.content
+    → IsPrepared h b (skips_marker h b (sub_at b.subs k) i o) p → IsPrepared h b (plan_of_choice h b (sub_at b.subs k) (does.Skip i)) p
 caught_from h b k i e o p at brought prepared =
     let s = sub_at b.subs k in
     subst (λ (q : Plan). IsPrepared h b q p)
-    (ap (λ (x : Option CachedSnapshot). passes_by h b s i x) brought ∙ at_entry (λ (e : Entry). passes_by h b s i (own_snapshot h b s e.ident.origin e.content)) (slice_get b.entries i) e at) prepared
+    (ap (λ (x : Option CachedSnapshot). skips_marker h b s i x) brought ∙ at_entry (λ (e : Entry). skips_marker h b s i (own_snapshot h b s e.ident.origin e.content)) (slice_get b.entries i) e at) prepared
 
 -- one more snapshot, and the oldest gone where there are too many
 all_push : (h : Site) (cs : List CachedSnapshot) (c : CachedSnapshot) → AllByRecursion (IsSnapshotOf h) cs → IsSnapshotOf h c → AllByRecursion (IsSnapshotOf h) (cs ++ c ∷ [])
@@ -106,9 +106,9 @@ only : (n i : ℕ) → i < n → All (λ j. j < n) (i ∷ [])
 only n i h = All-cons (λ (j : ℕ). j < n) i [] h (All-nil (λ (j : ℕ). j < n))
 
 -- the event that catches up with the marker at index i
-pub catches_up : (h : Site) (b : Broker) (k i : ℕ) (o : Option CachedSnapshot) (p : PlanBook) → IsSite h → IsWritable h b → k < length b.subs → is_name (sub_at b.subs k).name ≡ true → i < length b.entries → i + 1 < 2 ^ 64
-    → IfSome o (IsSnapshotOf h) → p ≡ writing_book k (sub_write.Acks (i ∷ [])) (update_after h b k (sub_write.Acks (i ∷ [])) (cached_with (sub_at b.subs k).cache o)) (catch_up_changes o i)
-    → IsPrepared h b (passes_by h b (sub_at b.subs k) i o) p
+pub catches_up : (h : Site) (b : Broker) (k i : ℕ) (o : Option CachedSnapshot) (p : PlanView) → IsSite h → IsWritable h b → k < length b.subs → is_name (sub_at b.subs k).name ≡ true → i < length b.entries → i + 1 < 2 ^ 64
+    → IfSome o (IsSnapshotOf h) → p ≡ writing_view k (sub_write.Acks (i ∷ [])) (update_after h b k (sub_write.Acks (i ∷ [])) (cached_with (sub_at b.subs k).cache o)) (catch_up_changes o i)
+    → IsPrepared h b (skips_marker h b (sub_at b.subs k) i o) p
 catches_up h b k i None p site writable within named stored next small is =
     let s = sub_at b.subs k in
     let w = sub_write.Acks (i ∷ []) in
@@ -126,6 +126,6 @@ pub catch_up_room : (o : Option CachedSnapshot) (i : ℕ) → total change_room 
 catch_up_room None i = refl
 catch_up_room (Some c) i = refl
 
-pub catch_up_still : (o : Option CachedSnapshot) (i : ℕ) → total change_senders (catch_up_changes o i) ≡ 0
+pub catch_up_still : (o : Option CachedSnapshot) (i : ℕ) → total change_replicators (catch_up_changes o i) ≡ 0
 catch_up_still None i = refl
 catch_up_still (Some c) i = refl

@@ -13,17 +13,17 @@ use Rattle.geo_base.specs.Subscription.{Subscription}
 use Rattle.broker_subs.specs.Table.{sub_at}
 use Rattle.broker_subs.specs.declared.changing.SubChange.TheVariants as sub_change
 use Rattle.broker_subs.specs.declared.writing.SubWrite.TheVariants as sub_write
-use Rattle.broker_state.specs.Plan.{PlanBook, quiet_book}
+use Rattle.broker_state.specs.Plan.{PlanView, quiet_view}
 use Rattle.broker_state.specs.Room.{HasRoom, Room}
-use Rattle.broker_state.specs.declared.change.BookChange.TheVariants as book_change
-use Rattle.broker_state.specs.declared.write.BookWrite.TheVariants as book_write
+use Rattle.broker_state.specs.declared.change.StateChange.TheVariants as state_change
+use Rattle.broker_state.specs.declared.write.StateWrite.TheVariants as state_write
 use Rattle.broker_state.specs.Site.{IsSite}
 use Rattle.broker_plans.specs.Prepared.{IsPrepared}
 use Rattle.broker_plans.specs.Storable.{IsWritable}
 use Rattle.broker_plans.specs.Updates.{update_after}
 use Rattle.broker_plans.proofs.Places.{name_there}
 use Rattle.broker_plans.proofs.Updates.{cache_at}
-use Rattle.broker_tasks.specs.Offering.{writing_book}
+use Rattle.broker_tasks.specs.Offering.{writing_view}
 use Rattle.broker_tasks.specs.Seeking.{SeekFits}
 use Rattle.broker_tasks.proofs.Shapes.{writes_cursor}
 
@@ -44,20 +44,20 @@ pub counted : (b : Broker) (n : List ℕ) (s : Subscription) → SeekFits b n �
 counted b n s fits is = rw is at fits
 
 -- the event that sets the cursor of the subscription at place k
-pub seeks : (h : Site) (b : Broker) (k i : ℕ) (p : PlanBook) → IsSite h → IsWritable h b → k < length b.subs → is_name (sub_at b.subs k).name ≡ true → i ≤ length b.entries → (sub_at b.subs k).seeks + 1 < 2 ^ 64
-    → p ≡ writing_book k (sub_write.Seek i) (update_after h b k (sub_write.Seek i) (sub_at b.subs k).cache) (book_change.Sub sub_change.Cleared ∷ [])
+pub seeks : (h : Site) (b : Broker) (k i : ℕ) (p : PlanView) → IsSite h → IsWritable h b → k < length b.subs → is_name (sub_at b.subs k).name ≡ true → i ≤ length b.entries → (sub_at b.subs k).seeks + 1 < 2 ^ 64
+    → p ≡ writing_view k (sub_write.Seek i) (update_after h b k (sub_write.Seek i) (sub_at b.subs k).cache) (state_change.Sub sub_change.Cleared ∷ [])
     → IsPrepared h b (plan_of (cursor_write h b (sub_at b.subs k) (write.Seek (sub_at b.subs k).name i)) (change.Cleared (sub_at b.subs k).name ∷ []) []) p
 seeks h b k i p site writable within named stored fits is =
     let s = sub_at b.subs k in
     rw is
-    (writes_cursor h b k (sub_write.Seek i) s.cache (book_change.Sub sub_change.Cleared ∷ []) site within named (cache_at h b.subs k writable.caches) (stored, fits) (name_there b.subs k within, tt) (λ c. (tt, tt)) tt)
+    (writes_cursor h b k (sub_write.Seek i) s.cache (state_change.Sub sub_change.Cleared ∷ []) site within named (cache_at h b.subs k writable.caches) (stored, fits) (name_there b.subs k within, tt) (λ c. (tt, tt)) tt)
 
 -- ---- restart
 
-abbrev pub restart_book : PlanBook
-restart_book = record (quiet_book 0) { writes = book_write.Ledger ∷ []; changes = book_change.Forget ∷ [] }
+abbrev pub restart_view : PlanView
+restart_view = record (quiet_view 0) { writes = state_write.Ledger ∷ []; changes = state_change.Forget ∷ [] }
 
-pub restarts : (h : Site) (b : Broker) (p : PlanBook) → p ≡ restart_book → IsPrepared h b restart p
+pub restarts : (h : Site) (b : Broker) (p : PlanView) → p ≡ restart_view → IsPrepared h b restart p
 unfolding restart
 restarts h b p is =
     rw is (record {
@@ -67,6 +67,6 @@ restarts h b p is =
       stored = record { writes = tt; changes = tt };
     })
 
-pub restart_room : (room : Room) (p : PlanBook) → 1 ≤ room.entries → p ≡ restart_book → HasRoom room p
+pub restart_room : (room : Room) (p : PlanView) → 1 ≤ room.entries → p ≡ restart_view → HasRoom room p
 restart_room room p some is =
-    rw is (record { writes = record { entries = omega (arith, some); streams = omega arith; places = omega arith; acks = (tt, tt); senders = omega arith }; given = omega arith; senders = omega arith })
+    rw is (record { writes = record { entries = omega (arith, some); streams = omega arith; places = omega arith; acks = (tt, tt); replicators = omega arith }; given = omega arith; replicators = omega arith })

@@ -16,22 +16,22 @@ use Rattle.broker_subs.specs.Steps.{SubWriteFits, machine_sub_write}
 use Rattle.broker_subs.specs.Table.{names_of, room_at, sub_at}
 use Rattle.broker_subs.specs.declared.writing.SubWrite.{SubWrite}
 use Rattle.broker_state.specs.Fits.{AllChangesFit, ChangesNamed, NamedFits}
-use Rattle.broker_state.specs.Plan.{PlanBook, idle_book, name_in, named_plan, quiet_book}
-use Rattle.broker_state.specs.Room.{HasRoom, Room, WritesHaveRoom, change_room, change_senders, total}
+use Rattle.broker_state.specs.Plan.{PlanView, idle_view, name_in, named_plan, quiet_view}
+use Rattle.broker_state.specs.Room.{HasRoom, Room, WritesHaveRoom, change_room, change_replicators, total}
 use Rattle.broker_state.specs.Writes.{machine_change}
-use Rattle.broker_state.specs.declared.change.BookChange.{BookChange}
+use Rattle.broker_state.specs.declared.change.StateChange.{StateChange}
 use Rattle.geo_base.specs.declared.packet.WireOut.{WireOut}
-use Rattle.broker_state.specs.declared.write.BookWrite.{BookWrite}
+use Rattle.broker_state.specs.declared.write.StateWrite.{StateWrite}
 use Rattle.broker_state.specs.Site.{IsSite}
 use Rattle.broker_plans.specs.Prepared.{ArePackets, IsPrepared, unsent}
 use Rattle.broker_plans.specs.Storable.{ChangesStorable, IsSnapshotOf, PlanStorable}
 use Rattle.broker_plans.specs.Updates.{cursor_writes, update_after}
 use Rattle.broker_plans.proofs.Places.{name_there, there}
 use Rattle.broker_plans.proofs.Updates.{cursor_fits, cursor_named, cursor_names, cursor_steps, cursor_stored}
-use Rattle.broker_tasks.specs.Offering.{given_book, writing_book}
+use Rattle.broker_tasks.specs.Offering.{given_view, writing_view}
 
 -- an event about a subscription whose name is known
-pub with_name : (h : Site) (b : Broker) (plan : Plan) (p : PlanBook) (n : List ℕ) → name_in b.subs p ≡ n → named_plan n b.entries p ≡ unsent plan → ArePackets h.clusters plan.sent p.sent
+pub with_name : (h : Site) (b : Broker) (plan : Plan) (p : PlanView) (n : List ℕ) → name_in b.subs p ≡ n → named_plan n b.entries p ≡ unsent plan → ArePackets h.clusters plan.sent p.sent
     → NamedFits h.per_ledger n b p → PlanStorable h plan → IsPrepared h b plan p
 with_name h b plan p n is steps sent fits stored = record {
   steps = subst (λ (m : List ℕ). named_plan m b.entries p ≡ unsent plan) (sym is) steps;
@@ -40,7 +40,7 @@ with_name h b plan p n is steps sent fits stored = record {
   stored = stored;
 }
 
-pub idle : (h : Site) (b : Broker) (p : PlanBook) → p ≡ idle_book → IsPrepared h b idle_plan p
+pub idle : (h : Site) (b : Broker) (p : PlanView) → p ≡ idle_view → IsPrepared h b idle_plan p
 idle h b p is =
     rw is (record {
       steps = refl;
@@ -49,38 +49,38 @@ idle h b p is =
       stored = record { writes = tt; changes = tt };
     })
 
-pub idle_room : (room : Room) (p : PlanBook) → p ≡ idle_book → HasRoom room p
+pub idle_room : (room : Room) (p : PlanView) → p ≡ idle_view → HasRoom room p
 idle_room room p is =
-    rw is (record { writes = record { entries = omega arith; streams = omega arith; places = omega arith; acks = tt; senders = omega arith }; given = omega arith; senders = omega arith })
+    rw is (record { writes = record { entries = omega arith; streams = omega arith; places = omega arith; acks = tt; replicators = omega arith }; given = omega arith; replicators = omega arith })
 
 -- ---- an index is given
 
-pub gives_index : (h : Site) (b : Broker) (k i at : ℕ) (e : Entry) (o : WireOut) (p : PlanBook) → k < length b.subs → i + 1 < 2 ^ 64 → at < length (sub_at b.subs k).consumers
-    → ArePackets h.clusters (message h b i e (consumer_at (sub_at b.subs k).consumers at)) (o ∷ []) → p ≡ given_book k i at o
+pub gives_index : (h : Site) (b : Broker) (k i at : ℕ) (e : Entry) (o : WireOut) (p : PlanView) → k < length b.subs → i + 1 < 2 ^ 64 → at < length (sub_at b.subs k).consumers
+    → ArePackets h.clusters (message h b i e (consumer_at (sub_at b.subs k).consumers at)) (o ∷ []) → p ≡ given_view k i at o
     → IsPrepared h b (plan_of [] (change.Given (sub_at b.subs k).name i at ∷ []) (message h b i e (consumer_at (sub_at b.subs k).consumers at))) p
 gives_index h b k i at e o p within next there_at packet is =
     let s = sub_at b.subs k in
     rw is
-    (with_name h b (plan_of [] (change.Given s.name i at ∷ []) (message h b i e (consumer_at s.consumers at))) (given_book k i at o) s.name (rw (there b.subs k within) refl) refl packet
+    (with_name h b (plan_of [] (change.Given s.name i at ∷ []) (message h b i e (consumer_at s.consumers at))) (given_view k i at o) s.name (rw (there b.subs k within) refl) refl packet
     (record { writes_named = tt; changes_named = (name_there b.subs k within, tt); writes = tt; changes = ((next, there_at), tt) })
     (record { writes = tt; changes = tt }))
 
-pub given_room : (room : Room) (k i at : ℕ) (o : WireOut) (p : PlanBook) → 1 ≤ (room_at room.subs k).room → p ≡ given_book k i at o → HasRoom room p
+pub given_room : (room : Room) (k i at : ℕ) (o : WireOut) (p : PlanView) → 1 ≤ (room_at room.subs k).room → p ≡ given_view k i at o → HasRoom room p
 given_room room k i at o p some is =
-    rw is (record { writes = record { entries = omega arith; streams = omega arith; places = omega arith; acks = tt; senders = omega arith }; given = omega (arith, some); senders = omega arith })
+    rw is (record { writes = record { entries = omega arith; streams = omega arith; places = omega arith; acks = tt; replicators = omega arith }; given = omega (arith, some); replicators = omega arith })
 
 -- ---- a cursor is written
 
 -- with the cache that the subscription has then, and changes that follow
-pub writes_cursor : (h : Site) (b : Broker) (k : ℕ) (w : SubWrite) (cache : List CachedSnapshot) (cs : List BookChange) → IsSite h → k < length b.subs → is_name (sub_at b.subs k).name ≡ true
+pub writes_cursor : (h : Site) (b : Broker) (k : ℕ) (w : SubWrite) (cache : List CachedSnapshot) (cs : List StateChange) → IsSite h → k < length b.subs → is_name (sub_at b.subs k).name ≡ true
     → AllByRecursion (IsSnapshotOf h) cache → SubWriteFits b.entries (sub_at b.subs k) w → ChangesNamed (sub_at b.subs k).name k (names_of b.subs) cs
     → ((c : Broker) → AllChangesFit (sub_at b.subs k).name k c cs) → ChangesStorable h (map (machine_change (sub_at b.subs k).name) cs)
     → IsPrepared h b (plan_of (cursor_write h b (record (sub_at b.subs k) { cache = cache }) (machine_sub_write (sub_at b.subs k).name b.entries w)) (map (machine_change (sub_at b.subs k).name) cs) [])
-    (writing_book k w (update_after h b k w cache) cs)
+    (writing_view k w (update_after h b k w cache) cs)
 writes_cursor h b k w cache cs site within named small fits names changes stored =
     let s = sub_at b.subs k in
     let ms = map (machine_change s.name) cs in
-    let p = writing_book k w (update_after h b k w cache) cs in
+    let p = writing_view k w (update_after h b k w cache) cs in
     with_name h b (plan_of (cursor_write h b (record s { cache = cache }) (machine_sub_write s.name b.entries w)) ms []) p s.name (rw (there b.subs k within) refl)
     (ap (λ (ws : List Write). plan_of ws ms []) (cursor_steps h b k w cache)) tt
     (record {
@@ -92,19 +92,19 @@ writes_cursor h b k w cache cs site within named small fits names changes stored
     (record { writes = cursor_stored h b (record s { cache = cache }) b.entries w site named small; changes = stored })
 
 -- it begins with the write, and the changes follow
-pub writing_is : (k : ℕ) (w v : SubWrite) (o u : Option BookWrite) (cs : List BookChange) (q p : PlanBook) → q ≡ record (quiet_book k) { writes = cursor_writes w o } → p ≡ record q { changes = q.changes ++ cs }
-    → w ≡ v → o ≡ u → p ≡ writing_book k v u cs
+pub writing_is : (k : ℕ) (w v : SubWrite) (o u : Option StateWrite) (cs : List StateChange) (q p : PlanView) → q ≡ record (quiet_view k) { writes = cursor_writes w o } → p ≡ record q { changes = q.changes ++ cs }
+    → w ≡ v → o ≡ u → p ≡ writing_view k v u cs
 writing_is k w v o u cs q p begun is same told = is ∙ rw (begun, same, told) refl
 
 -- changes that take no room
-pub writing_room : (room : Room) (k : ℕ) (w : SubWrite) (o : Option BookWrite) (cs : List BookChange) (p : PlanBook) → WritesHaveRoom room k (cursor_writes w o)
-    → total change_room cs ≡ 0 → total change_senders cs ≡ 0 → p ≡ writing_book k w o cs → HasRoom room p
-writing_room room k w o cs p writes none still is = rw is (record { writes = writes; given = omega (arith, none); senders = omega (arith, writes.senders, still) })
+pub writing_room : (room : Room) (k : ℕ) (w : SubWrite) (o : Option StateWrite) (cs : List StateChange) (p : PlanView) → WritesHaveRoom room k (cursor_writes w o)
+    → total change_room cs ≡ 0 → total change_replicators cs ≡ 0 → p ≡ writing_view k w o cs → HasRoom room p
+writing_room room k w o cs p writes none still is = rw is (record { writes = writes; given = omega (arith, none); replicators = omega (arith, writes.replicators, still) })
 
 -- ---- a plan that is the same as another one
 
-pub idle_as : (h : Site) (b : Broker) (q : Plan) (p : PlanBook) → q ≡ idle_plan → p ≡ idle_book → IsPrepared h b q p
+pub idle_as : (h : Site) (b : Broker) (q : Plan) (p : PlanView) → q ≡ idle_plan → p ≡ idle_view → IsPrepared h b q p
 idle_as h b q p same is = rw same (idle h b p is)
 
-pub plan_as : {E : Type 0} (h : Site) (b : Broker) (q w : Plan) (p : PlanBook) (r : Result (Unit {0}) E) → q ≡ w → OnOk r (IsPrepared h b w p) → OnOk r (IsPrepared h b q p)
+pub plan_as : {E : Type 0} (h : Site) (b : Broker) (q w : Plan) (p : PlanView) (r : Result (Unit {0}) E) → q ≡ w → OnOk r (IsPrepared h b w p) → OnOk r (IsPrepared h b q p)
 plan_as {E} h b q w p r same prepared = rw same prepared

@@ -7,12 +7,12 @@ use Rattle.geo_base.specs.declared.entry.Entry.{Entry}
 use Rattle.geo_base.specs.declared.entry.Targets.TheVariants as targets
 use Rattle.geo_base.specs.declared.marker.ClusterPosition.{ClusterPosition}
 use Rattle.geo_base.specs.declared.marker.Marker.TheVariants as marker
-use Rattle.geo_base.specs.declared.marker.Place.TheVariants as place
+use Rattle.geo_base.specs.declared.marker.ClusterRef.TheVariants as cluster_ref
 use Rattle.geo_base.specs.declared.position.Position.{Position}
-use Rattle.geo_base.specs.declared.snapshot.Builder.{Builder}
+use Rattle.geo_base.specs.declared.snapshot.SnapshotBuilder.{SnapshotBuilder}
 use Rattle.geo_base.specs.declared.snapshot.Cut.{Cut}
 use Rattle.geo_base.specs.Broker.{Broker, Site, cluster_name}
-use Rattle.geo_base.specs.Builder.{named, snapshot_id}
+use Rattle.geo_base.specs.SnapshotBuilder.{named, snapshot_id}
 use Rattle.geo_base.specs.Entry.{marker_producer}
 use Rattle.geo_base.specs.Markers.{request_marker, response_marker, snapshot_marker}
 use Rattle.geo_base.specs.Sizes.{cluster_position_size, position_size}
@@ -65,7 +65,7 @@ response_storable h b y id site short =
             name_most h.clusters y site.names,
             number_most 20 11,
             bytes_most 1 (length id),
-            bytes_most 2 (cluster_position_size h.clusters (record { cluster = place.Known h.own; position = at })),
+            bytes_most 2 (cluster_position_size h.clusters (record { cluster = cluster_ref.Known h.own; position = at })),
             bytes_most 1 (length (slice_index_or h.clusters h.own [])),
             name_most h.clusters h.own site.names,
             bytes_most 2 (position_size at),
@@ -77,7 +77,7 @@ response_storable h b y id site short =
 pub response_ready : (h : Site) (b : Broker) (y : ℕ) (id : List ℕ) (e : Entry) → IsSite h → length id ≤ 5242880 → e ≡ response_marker h b y id → IsReady h b e
 response_ready h b y id e site short is = rw is (record { new = own_accepted h.own b.entries; storable = response_storable h b y id site short })
 
-snapshot_storable : (h : Site) (b : Broker) (u : Builder) → IsSite h → IsBuilderOf h u → IsStorable h (snapshot_marker h b u)
+snapshot_storable : (h : Site) (b : Broker) (u : SnapshotBuilder) → IsSite h → IsBuilderOf h u → IsStorable h (snapshot_marker h b u)
 snapshot_storable h b u site of = record {
   read = record { rest = no_rest; marker = tt };
   size = within h.own _
@@ -99,7 +99,7 @@ snapshot_storable h b u site of = record {
       ));
 }
 
-pub snapshot_ready : (h : Site) (b : Broker) (u : Builder) (e : Entry) → IsSite h → IsBuilderOf h u → e ≡ snapshot_marker h b u → IsReady h b e
+pub snapshot_ready : (h : Site) (b : Broker) (u : SnapshotBuilder) (e : Entry) → IsSite h → IsBuilderOf h u → e ≡ snapshot_marker h b u → IsReady h b e
 snapshot_ready h b u e site of is = rw is (record { new = own_accepted h.own b.entries; storable = snapshot_storable h b u site of })
 
 -- ---- ids
@@ -119,13 +119,13 @@ short_id name p id short ledger entry is =
 -- ---- the markers that the code makes, of parts that are made one by one
 
 pub request_is : {E : Type 0} (h : Site) (b : Broker) (id text : List ℕ) (own : ℕ) (names : List (List ℕ)) (r : Result Entry E) → text ≡ id → own ≡ h.own → names ≡ []
-    → IfOk r (λ e. e ≡ own_marker h b (marker.Request text (place.Known own)) targets.All names) → IfOk r (λ e. e ≡ request_marker h b id)
+    → IfOk r (λ e. e ≡ own_marker h b (marker.Request text (cluster_ref.Known own)) targets.All names) → IfOk r (λ e. e ≡ request_marker h b id)
 request_is {E} h b id text own names (Ok e) said mine none is = is ∙ rw (said, mine, none) refl
 request_is {E} h b id text own names (Err why) said mine none is = tt
 
 pub response_is : {E : Type 0} (h : Site) (b : Broker) (y own : ℕ) (id text ls : List ℕ) (es : List Entry) (o : Option Position) (p : Position) (r : Result Entry E) → text ≡ id → own ≡ h.own
     → p ≡ or_first o → o ≡ position_of ls (length es - 1) → ls ≡ b.ledgers → es ≡ b.entries
-    → IfOk r (λ e. e ≡ own_marker h b (marker.Response text (record { cluster = place.Known own; position = p })) (targets.Only (2 ^ y)) (cluster_name h y ∷ [])) → IfOk r (λ e. e ≡ response_marker h b y id)
+    → IfOk r (λ e. e ≡ own_marker h b (marker.Response text (record { cluster = cluster_ref.Known own; position = p })) (targets.Only (2 ^ y)) (cluster_name h y ∷ [])) → IfOk r (λ e. e ≡ response_marker h b y id)
 response_is {E} h b y own id text ls es o p (Ok e) said mine at last ledgers entries is = is ∙ rw (said, mine, at, last, ledgers, entries) refl
 response_is {E} h b y own id text ls es o p (Err why) said mine at last ledgers entries is = tt
 
@@ -138,7 +138,7 @@ made_cut : (t : Bool) (c d : Cut) → t ≡ true → Some c ≡ (if t then Some 
 made_cut true c d is there = ap (cut_or d) there
 made_cut false c d is there = absurd cc
 
-pub snapshot_is : {E : Type 0} (h : Site) (b : Broker) (u : Builder) (own : ℕ) (text : List ℕ) (cut : Cut) (remote : List ClusterPosition) (r : Result Entry E) → text ≡ u.id
+pub snapshot_is : {E : Type 0} (h : Site) (b : Broker) (u : SnapshotBuilder) (own : ℕ) (text : List ℕ) (cut : Cut) (remote : List ClusterPosition) (r : Result Entry E) → text ≡ u.id
     → u.finished ≡ true → Some cut ≡ (if u.finished then Some u.cut else None) → remote ≡ named cut → own ≡ h.own
     → IfOk r (λ e. e ≡ own_marker h b (marker.Snapshot text cut.local remote) (targets.Only (2 ^ own)) (cluster_name h own ∷ [])) → IfOk r (λ e. e ≡ snapshot_marker h b u)
 snapshot_is {E} h b u own text cut remote (Ok e) said made there places mine is = is ∙ rw (places, made_cut u.finished cut u.cut made there, said, mine) refl

@@ -9,20 +9,21 @@ ghost use Rattle.broker_plans.specs.Storable.{IsSnapshotOf};
 use broker_plans::sub_at;
 use broker_state::BrokerState;
 use geo_base::{
-    CachedSnapshot, ClusterPosition, Content, Cut, Entry, Marker, Memory, Place, Position, Sequence,
+    CachedSnapshot, ClusterPosition, ClusterRef, Content, Cut, Entry, Marker, Memory, Position,
+    Sequence,
 };
 use std::alloc::Global;
 
 /// The snapshot that an entry brings to the subscription at a place, if it does.
 pub(crate) fn own_snapshot(
     alloc: Global,
-    book: &BrokerState,
-    place: usize,
+    state: &BrokerState,
+    sub_index: usize,
     entry: &Entry,
 ) -> Result<Option<CachedSnapshot>, Memory>
-    requires { place < length book.now.broker.subs }
-    ensures snapshot { IfOk result (λ o. o ≡ own_snapshot book.now.site book.now.broker (sub_at book.now.broker.subs place) entry.now.ident.origin entry.now.content) }
-    ensures small { IfOk result (λ o. IfSome o (IsSnapshotOf book.now.site)) }
+    requires { sub_index < length state.now.broker.subs }
+    ensures snapshot { IfOk result (λ o. o ≡ own_snapshot state.now.site state.now.broker (sub_at state.now.broker.subs sub_index) entry.now.ident.origin entry.now.content) }
+    ensures small { IfOk result (λ o. IfSome o (IsSnapshotOf state.now.site)) }
 {
     let Content::Marked(marker) = &entry.content else {
         return Ok(None);
@@ -30,13 +31,13 @@ pub(crate) fn own_snapshot(
     let Marker::Snapshot { local, remote, .. } = marker.get() else {
         return Ok(None);
     };
-    if entry.ident.origin != book.site().own() || !sub_at(book, place).is_replicated() {
+    if entry.ident.origin != state.site().own() || !sub_at(state, sub_index).is_replicated() {
         return Ok(None);
     }
-    match book.index_of(*local) {
+    match state.index_of(*local) {
         None => Ok(None),
         Some(index) => {
-            let cut = cut_of(alloc, book, *local, remote.as_slice())?;
+            let cut = cut_of(alloc, state, *local, remote.as_slice())?;
             Ok(Some(CachedSnapshot { index, cut }))
         }
     }
@@ -46,15 +47,15 @@ pub(crate) fn own_snapshot(
 #[tactic(auto, using(crate::proofs::Cuts::as_many))]
 fn cut_of(
     alloc: Global,
-    book: &BrokerState,
+    state: &BrokerState,
     local: Position,
     named: &[ClusterPosition],
 ) -> Result<Cut, Memory>
-    ensures cut { IfOk result (λ c. c ≡ cut_of book.now.site.own (length book.now.site.clusters) local named.now) }
-    ensures many { IfOk result (λ c. length c.remote ≡ length book.now.site.clusters) }
+    ensures cut { IfOk result (λ c. c ≡ cut_of state.now.site.own (length state.now.site.clusters) local named.now) }
+    ensures many { IfOk result (λ c. length c.remote ≡ length state.now.site.clusters) }
 {
-    let mut remote = no_places(alloc, book.site().clusters().len())?;
-    put_all(&mut remote, book.site().own(), named);
+    let mut remote = no_places(alloc, state.site().clusters().len())?;
+    put_all(&mut remote, state.site().own(), named);
     Ok(Cut { local, remote })
 }
 
@@ -81,11 +82,11 @@ fn put_all(places: &mut Sequence<Option<Position>>, own: u32, named: &[ClusterPo
 fn put(places: &mut Sequence<Option<Position>>, own: u32, named: &ClusterPosition)
     ensures { places.new ≡ with_place own named.now.cluster named.now.position places.old }
 {
-    let Place::Known(cluster) = &named.cluster else {
+    let ClusterRef::Known(cluster) = &named.cluster else {
         return;
     };
-    let place = *cluster as usize;
-    if *cluster != own && place < places.len() {
-        places.set(place, Some(named.position));
+    let at = *cluster as usize;
+    if *cluster != own && at < places.len() {
+        places.set(at, Some(named.position));
     }
 }

@@ -1,8 +1,8 @@
 //! A subscription catches up with a marker: it is acknowledged on the cursor, and a snapshot that it brings enters the cache first, so
-//! that the update behind the cursor's write may tell of it.
+//! that the update after the cursor's write may tell of it.
 ghost use Rattle.std.specs.Prelude.{◌≡◌, ◌+◌, ◌<◌, ◌^◌, ◌++◌, ◌∷◌, [], length, IfOk, IfSome, OnOk};
 ghost use Rattle.geo_base.specs.Cache.{cached};
-ghost use Rattle.geo_base.specs.Offering.{passes_by};
+ghost use Rattle.geo_base.specs.Offering.{skips_marker};
 ghost use Rattle.broker_subs.specs.Steps.{SubWriteFits};
 ghost use Rattle.broker_subs.specs.Table.{sub_at};
 ghost use Rattle.broker_state.specs.Plan.{IsEmptyPlan};
@@ -14,37 +14,37 @@ ghost use Rattle.broker_plans.specs.Updates.{update_after};
 ghost use Rattle.broker_tasks.specs.Offering.{cache_changes, cached_with, catch_up_changes};
 
 use broker_plans::{begin_write, sub_at, update_after};
-use broker_state::{BookChange, BookWrite, BrokerState, Plan};
+use broker_state::{BrokerState, Plan, StateChange, StateWrite};
 use broker_subs::{SubChange, SubWrite};
 use geo_base::{CachedSnapshot, Memory, Sequence};
-use snapshots::SnapshotCache;
+use replicated_subs::SnapshotCache;
 use std::alloc::Global;
 
 /// The marker at an index is acknowledged by the subscription at a place, to which it brought a snapshot, if it did.
 pub(crate) fn catch_up(
     alloc: Global,
-    book: &mut BrokerState,
-    place: usize,
+    state: &mut BrokerState,
+    sub_index: usize,
     index: u64,
     snapshot: Option<CachedSnapshot>,
     plan: &mut Plan,
 ) -> Result<(), Memory>
-    requires can { CanWrite book.old.site book.old.broker }
-    requires place { place < length book.old.broker.subs }
-    requires index { index < length book.old.broker.entries }
+    requires can { CanWrite state.old.site state.old.broker }
+    requires sub_index { sub_index < length state.old.broker.subs }
+    requires index { index < length state.old.broker.entries }
     requires next { index + 1 < 2 ^ 64 }
-    requires small { IfSome snapshot (IsSnapshotOf book.old.site) }
+    requires small { IfSome snapshot (IsSnapshotOf state.old.site) }
     requires empty { IsEmptyPlan plan.old }
-    ensures prepared { OnOk result (IsPrepared book.old.site book.old.broker (passes_by book.old.site book.old.broker (sub_at book.old.broker.subs place) index snapshot) plan.new) }
-    ensures room { OnOk result (HasRoom book.new.room plan.new) }
-    ensures kept { SameState book.old book.new }
+    ensures prepared { OnOk result (IsPrepared state.old.site state.old.broker (skips_marker state.old.site state.old.broker (sub_at state.old.broker.subs sub_index) index snapshot) plan.new) }
+    ensures room { OnOk result (HasRoom state.new.room plan.new) }
+    ensures kept { SameState state.old state.new }
 {
-    let _site = book.site();
-    let _named = sub_at(book, place);
+    let _site = state.site();
+    let _named = sub_at(state, sub_index);
     let indexes = one_index(alloc, index)?;
     let write = SubWrite::Acks(indexes);
-    let update = update_with(alloc, book, place, &write, &snapshot)?;
-    begin_write(book, place, 0, write, update, plan)?;
+    let update = update_with(alloc, state, sub_index, &write, &snapshot)?;
+    begin_write(state, sub_index, 0, write, update, plan)?;
     add_changes(plan, index, snapshot)
 }
 
@@ -60,22 +60,22 @@ fn one_index(alloc: Global, index: u64) -> Result<Sequence<u64>, Memory>
 /// The update that follows a write of the cursor of the subscription at a place, to which a marker brought a snapshot, if it did.
 fn update_with(
     alloc: Global,
-    book: &BrokerState,
-    place: usize,
+    state: &BrokerState,
+    sub_index: usize,
     write: &SubWrite,
     snapshot: &Option<CachedSnapshot>,
-) -> Result<Option<BookWrite>, Memory>
-    requires number { MarkerFits book.now.site book.now.broker }
-    requires place { place < length book.now.broker.subs }
-    requires fits { SubWriteFits book.now.broker.entries (sub_at book.now.broker.subs place) write.now }
-    ensures { IfOk result (λ o. o ≡ update_after book.now.site book.now.broker place write.now (cached_with (sub_at book.now.broker.subs place).cache snapshot.now)) }
+) -> Result<Option<StateWrite>, Memory>
+    requires number { MarkerFits state.now.site state.now.broker }
+    requires sub_index { sub_index < length state.now.broker.subs }
+    requires fits { SubWriteFits state.now.broker.entries (sub_at state.now.broker.subs sub_index) write.now }
+    ensures { IfOk result (λ o. o ≡ update_after state.now.site state.now.broker sub_index write.now (cached_with (sub_at state.now.broker.subs sub_index).cache snapshot.now)) }
 {
-    let cache = sub_at(book, place).cache();
+    let cache = sub_at(state, sub_index).cache();
     match snapshot {
-        None => update_after(alloc, book, place, write, cache),
+        None => update_after(alloc, state, sub_index, write, cache),
         Some(snapshot) => {
             let cache = copy_with(alloc, cache, snapshot)?;
-            update_after(alloc, book, place, write, &cache)
+            update_after(alloc, state, sub_index, write, &cache)
         }
     }
 }
@@ -98,8 +98,8 @@ fn add_changes(plan: &mut Plan, index: u64, snapshot: Option<CachedSnapshot>) ->
     ensures { OnOk result (plan.new ≡ record plan.old { changes = plan.old.changes ++ catch_up_changes snapshot index }) }
 {
     add_snapshot(plan, snapshot)?;
-    plan.change(BookChange::Sub(SubChange::Passed(index)))?;
-    plan.change(BookChange::Sub(SubChange::Acked))
+    plan.change(StateChange::Sub(SubChange::Skipped(index)))?;
+    plan.change(StateChange::Sub(SubChange::Acked))
 }
 
 /// A snapshot enters the cache, if there is one.
@@ -108,6 +108,6 @@ fn add_snapshot(plan: &mut Plan, snapshot: Option<CachedSnapshot>) -> Result<(),
 {
     match snapshot {
         None => Ok(()),
-        Some(snapshot) => plan.change(BookChange::Sub(SubChange::Cache(snapshot))),
+        Some(snapshot) => plan.change(StateChange::Sub(SubChange::Cache(snapshot))),
     }
 }

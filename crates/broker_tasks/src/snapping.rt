@@ -1,7 +1,7 @@
 //! Snap: a snapshot begins with a request to all other clusters, where a subscription is replicated and none is being made (PIP-33).
 ghost use Rattle.std.specs.Prelude.{◌≡◌, ◌≤◌, ◌&&◌, is_none, length, IfOk, OnOk};
 ghost use Rattle.std.specs.List.{list_any};
-ghost use Rattle.geo_base.specs.Builder.{snapshot_id};
+ghost use Rattle.geo_base.specs.SnapshotBuilder.{snapshot_id};
 ghost use Rattle.geo_base.specs.Markers.{asks, snap};
 ghost use Rattle.geo_base.specs.Subscription.{Subscription};
 ghost use Rattle.broker_state.specs.Plan.{IsEmptyPlan};
@@ -12,57 +12,57 @@ ghost use Rattle.broker_plans.specs.Storable.{most_id};
 
 use crate::act::begin_marker;
 use crate::markers::request;
-use broker_state::{BookChange, BoxedBuilder, BrokerState, Plan};
+use broker_state::{BoxedBuilder, BrokerState, Plan, StateChange};
 use geo_base::{EntryStore, Memory, Position, Text};
-use snapshots::Builder;
+use replicated_subs::SnapshotBuilder;
 use std::alloc::Global;
 
 /// What the beginning of a snapshot will do, among at least two clusters; it is not enabled where no subscription is replicated, or
 /// where a snapshot is being made. Only room is made; an `Err` is want of memory.
 #[tactic(auto, using(crate::proofs::Plans::not_asked, crate::proofs::Plans::idle_room, crate::proofs::Plans::asks_now))]
-pub fn prepare_snap(alloc: Global, book: &mut BrokerState, plan: &mut Plan) -> Result<(), Memory>
-    requires can { CanWrite book.old.site book.old.broker }
-    requires remotes { 2 ≤ length book.old.site.clusters }
+pub fn prepare_snap(alloc: Global, state: &mut BrokerState, plan: &mut Plan) -> Result<(), Memory>
+    requires can { CanWrite state.old.site state.old.broker }
+    requires remotes { 2 ≤ length state.old.site.clusters }
     requires empty { IsEmptyPlan plan.old }
-    ensures prepared { OnOk result (IsPrepared book.old.site book.old.broker (snap book.old.site book.old.broker) plan.new) }
-    ensures room { OnOk result (HasRoom book.new.room plan.new) }
-    ensures kept { SameState book.old book.new }
+    ensures prepared { OnOk result (IsPrepared state.old.site state.old.broker (snap state.old.site state.old.broker) plan.new) }
+    ensures room { OnOk result (HasRoom state.new.room plan.new) }
+    ensures kept { SameState state.old state.new }
 {
-    if !may_ask(book) {
+    if !may_ask(state) {
         return Ok(());
     }
-    book.reserve_entries(1)?;
-    let site = book.site();
+    state.reserve_entries(1)?;
+    let site = state.site();
     let name = site.cluster_name(site.own()).as_str();
-    let id = snapshot_id(alloc, name, book.store().next())?;
-    ask(alloc, book, &id, plan)?;
+    let id = snapshot_id(alloc, name, state.store().next())?;
+    ask(alloc, state, &id, plan)?;
     Ok(())
 }
 
 /// Whether a subscription is replicated and no snapshot is being made.
-fn may_ask(book: &BrokerState) -> bool
-    ensures { result ≡ (list_any (λ (s : Subscription). s.replicated) book.now.broker.subs && is_none book.now.broker.builder) }
+fn may_ask(state: &BrokerState) -> bool
+    ensures { result ≡ (list_any (λ (s : Subscription). s.replicated) state.now.broker.subs && is_none state.now.broker.builder) }
 {
-    book.subs().any_replicated() && book.builder().is_none()
+    state.subs().any_replicated() && state.builder().is_none()
 }
 
 /// A request of this id is stored, and a builder begins.
 #[tactic(auto, using(crate::proofs::Plans::asked, crate::proofs::Plans::asked_room, crate::proofs::Heard::started_builder))]
-fn ask(alloc: Global, book: &BrokerState, id: &Text, plan: &mut Plan) -> Result<(), Memory>
-    requires number { MarkerFits book.now.site book.now.broker }
-    requires remotes { 2 ≤ length book.now.site.clusters }
+fn ask(alloc: Global, state: &BrokerState, id: &Text, plan: &mut Plan) -> Result<(), Memory>
+    requires number { MarkerFits state.now.site state.now.broker }
+    requires remotes { 2 ≤ length state.now.site.clusters }
     requires short { length id.now ≤ most_id }
-    requires entries { 1 ≤ book.now.room.entries }
-    requires streams { 1 ≤ book.now.room.streams }
+    requires entries { 1 ≤ state.now.room.entries }
+    requires streams { 1 ≤ state.now.room.streams }
     requires empty { IsEmptyPlan plan.old }
-    ensures prepared { OnOk result (IsPrepared book.now.site book.now.broker (asks book.now.site book.now.broker id.now) plan.new) }
-    ensures room { OnOk result (HasRoom book.now.room plan.new) }
+    ensures prepared { OnOk result (IsPrepared state.now.site state.now.broker (asks state.now.site state.now.broker id.now) plan.new) }
+    ensures room { OnOk result (HasRoom state.now.room plan.new) }
 {
-    let asked = request(alloc, book, id.as_str())?;
+    let asked = request(alloc, state, id.as_str())?;
     begin_marker(alloc, asked, plan)?;
-    let clusters = book.site().clusters().len() as u32;
-    let builder = Builder::start(alloc, id.as_str(), book.site().own(), clusters)?;
-    plan.change(BookChange::Building {
+    let clusters = state.site().clusters().len() as u32;
+    let builder = SnapshotBuilder::start(alloc, id.as_str(), state.site().own(), clusters)?;
+    plan.change(StateChange::Building {
         builder: Some(BoxedBuilder::new(alloc, builder)?),
     })?;
     Ok(())

@@ -98,7 +98,7 @@ pub fn count(alloc: Global, node: &mut Broker, session: u64, frame: &[u8]) -> Re
     Ok(len)
 }
 
-/// The broker stops behind the first durable write of a packet of a session.
+/// The broker stops after the first durable write of a packet of a session.
 pub fn stop(alloc: Global, node: &mut Broker, session: u64, frame: &[u8]) -> Result<(), Fault>
     ensures { node.new.site ≡ node.old.site }
 {

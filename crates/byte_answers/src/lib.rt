@@ -4,7 +4,7 @@
 //!   hexadecimal, `-` for none. A line is written for each: `ok HEX` with the canonical bytes of what a codec read, or the fault. Of a
 //!   stream the first frame counts, and the answer is `incomplete` where it has none yet. A `value` is the machine's value of one frame,
 //!   where no cluster has a name, and `unreadable` of what is no frame.
-//! - Packets: lines `SESSION ZEROS HEX`, a packet of a session whose frame is these bytes and so many zeros behind them. A line is
+//! - Packets: lines `SESSION ZEROS HEX`, a packet of a session whose frame is these bytes and so many zeros after them. A line is
 //!   written for each, of what the broker at b does that takes it from a in an open session 1: the frames that answer it, `-` for none;
 //!   what it stored; how many packets answer an honest SEND of session 1 then; and how many entries the broker has after a stop within
 //!   one more SEND, saved and loaded.

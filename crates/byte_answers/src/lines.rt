@@ -38,7 +38,7 @@ fn add_answers(
     lines: &[u8],
     answers: &mut Vec<u8>,
 ) -> Result<(), Fault> {
-    // behind the last line feed no line stands
+    // after the last line feed no line stands
     let whole = lines.strip_suffix(b"\n").unwrap_or(lines);
     match kind {
         Lines::Vectors => {

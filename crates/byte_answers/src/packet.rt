@@ -22,7 +22,7 @@ pub fn answer_packet(alloc: Global, line: &[u8], out: &mut Vec<u8>) -> Result<()
     }
 }
 
-/// What a broker does with a packet whose frame is these bytes and so many zeros behind them.
+/// What a broker does with a packet whose frame is these bytes and so many zeros after them.
 fn tell_with(
     alloc: Global,
     session: u64,

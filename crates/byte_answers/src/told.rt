@@ -81,7 +81,7 @@ fn put_answers(out: &mut Vec<u8>, answers: &[WireOut]) -> Result<(), Memory> {
     Ok(())
 }
 
-/// What stands behind the answers in a line.
+/// What stands after the answers in a line.
 fn put_rest(out: &mut Vec<u8>, stored: &str, then: usize, kept: usize) -> Result<(), Memory> {
     match writeln!(out, " stored {stored} then {then} kept {kept}") {
         Ok(()) => Ok(()),

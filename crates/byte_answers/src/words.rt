@@ -9,7 +9,7 @@ pub fn text_of(line: &[u8]) -> &str {
     str::from_utf8(line).unwrap_or("")
 }
 
-/// The number that a text begins with, and what stands behind it.
+/// The number that a text begins with, and what stands after it.
 pub fn number_of(text: &str) -> Option<(u64, &str)> {
     let (number, rest) = text.split_once(' ')?;
     match number.parse() {

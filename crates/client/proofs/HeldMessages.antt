@@ -84,13 +84,13 @@ first_given_up (None ∷ slots) (suc slot) is l = first_given_up slots slot (ome
 
 -- ---- the messages up to a position
 
-pub passed_over : (slots : List (Option Held)) (p : Position) (slot : ℕ) → is_up_to p (get_or slots slot None) ≡ true
+pub updated_indexes : (slots : List (Option Held)) (p : Position) (slot : ℕ) → is_up_to p (get_or slots slot None) ≡ true
     → filter (λ (h : Held). not (position_le h.position p)) (held_in (set slots slot None)) ≡ filter (λ (h : Held). not (position_le h.position p)) (held_in slots)
-passed_over [] p slot is = absurd cc
-passed_over (None ∷ slots) p zero is = absurd cc
-passed_over (Some g ∷ slots) p zero is = let gone : position_le g.position p ≡ true = is in rw gone refl
-passed_over (None ∷ slots) p (suc slot) is = passed_over slots p slot is
-passed_over (Some g ∷ slots) p (suc slot) is = rw (passed_over slots p slot is) refl
+updated_indexes [] p slot is = absurd cc
+updated_indexes (None ∷ slots) p zero is = absurd cc
+updated_indexes (Some g ∷ slots) p zero is = let gone : position_le g.position p ≡ true = is in rw gone refl
+updated_indexes (None ∷ slots) p (suc slot) is = updated_indexes slots p slot is
+updated_indexes (Some g ∷ slots) p (suc slot) is = rw (updated_indexes slots p slot is) refl
 
 pub all_later : (slots : List (Option Held)) (p : Position) → ((j : ℕ) → is_up_to p (get_or slots j None) ≡ false) → held_in slots ≡ filter (λ (h : Held). not (position_le h.position p)) (held_in slots)
 all_later [] p none = refl

@@ -1,5 +1,5 @@
 -- What a client publishes is a message: the names in it and its text are short.
-use Rattle.std.proofs.Common.{◌≡◌, ℕ, zero, suc, ◌+◌, ◌*◌, ◌/◌, ◌≤◌, nat_lt, nat_le, Bool, true, false, ◌&&◌, if◌then◌else◌, List, [], ◌∷◌, length, Option, Some, None, refl, arith}
+use Rattle.std.proofs.Common.{◌≡◌, ℕ, zero, suc, ◌+◌, ◌*◌, ◌/◌, ◌≤◌, nat_lt, nat_le, true, false, if◌then◌else◌, List, [], ◌∷◌, length, Option, Some, None, arith}
 use Rattle.std.specs.List.{list_all}
 use Rattle.std.proofs.lemmas.Bool.Decides.{nat_tests}
 use Rattle.geo_base.specs.declared.client.Line.TheVariants as line
@@ -14,6 +14,7 @@ use Rattle.geo_base.specs.Scripted.{is_optional_name}
 use Rattle.geo_base.specs.Setup.{Declared, Setup}
 use Rattle.geo_base.specs.Sizes.{optional_text, repeated_text, text_field, varint_groups, varint_size}
 use Rattle.client.specs.Site.{is_short_line}
+use Rattle.geo_base.proofs.Bools.{both_true}
 
 pub key_is_name : (seq : ℕ) (to : Targets) (key : Option (List ℕ)) (text : List ℕ) → is_short_line (line.Pub seq to key text) ≡ true → is_optional_name key ≡ true
 key_is_name seq to key text h = grind (arith, nat_tests)
@@ -40,16 +41,11 @@ key_size : (k : Option (List ℕ)) → is_optional_name k ≡ true → optional_
 key_size None h = omega arith
 key_size (Some k) h = let a = varint_size_le (length k) in let b = length-name k h in omega arith
 
-both : (a b : Bool) → (a && b) ≡ true → (a ≡ true) × (b ≡ true)
-both true true h = (refl, refl)
-both true false h = absurd cc
-both false b h = absurd cc
-
 names_size : (x : ℕ) (to : Targets) (ns : List (List ℕ)) → list_all is_name ns ≡ true → repeated_text 7 (target_names x to ns) ≤ length ns * 27
 names_size x targets.All ns h = omega arith
 names_size x (targets.Only bits) [] h = omega arith
 names_size x (targets.Only bits) (n ∷ ns) h =
-    let parts = both (is_name n) (list_all is_name ns) h in
+    let parts = both_true (is_name n) (list_all is_name ns) h in
     let first = name_size n parts.0 in
     let rest = names_size (x + 1) (targets.Only bits) ns parts.1 in
     elim (goes_to x (targets.Only bits)) as (λ b. repeated_text 7 (if b then n ∷ target_names (x + 1) (targets.Only bits) ns else target_names (x + 1) (targets.Only bits) ns) ≤ length (n ∷ ns) * 27)

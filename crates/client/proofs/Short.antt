@@ -10,27 +10,17 @@ use Rattle.geo_base.specs.Setup.{Declared, Setup}
 use Rattle.client.specs.Site.{is_short_line}
 use Rattle.std.specs.Prelude.{nat_lt, ◌^◌}
 use Rattle.geo_base.specs.Scripted.{stays_or_is_silent}
-
-both : (a b : Bool) → (a && b) ≡ true → (a ≡ true) × (b ≡ true)
-both true b h = (refl, h)
-both false b h = absurd cc
+use Rattle.geo_base.proofs.Bools.{and_fourth_of_five, both_true}
 
 pub short_at : (ls : List Line) (i : ℕ) (l : Line) → list_all is_short_line ls ≡ true → slice_get ls i ≡ Some l → is_short_line l ≡ true
 short_at [] i l h at = absurd cc
-short_at (m ∷ ms) zero l h at = let first = (both (is_short_line m) (list_all is_short_line ms) h).0 in cc
-short_at (m ∷ ms) (suc i) l h at = short_at ms i l (both (is_short_line m) (list_all is_short_line ms) h).1 at
+short_at (m ∷ ms) zero l h at = let first = (both_true (is_short_line m) (list_all is_short_line ms) h).0 in cc
+short_at (m ∷ ms) (suc i) l h at = short_at ms i l (both_true (is_short_line m) (list_all is_short_line ms) h).1 at
 
 last_two : (a b c d : Bool) → (a && b && c && d) ≡ true → (c && d) ≡ true
 last_two true true c d h = h
 last_two true false c d h = absurd cc
 last_two false b c d h = absurd cc
-
-fourth : (a b c d e : Bool) → (a && b && c && d && e) ≡ true → d ≡ true
-fourth true true true true e h = refl
-fourth true true true false e h = absurd cc
-fourth true true false d e h = absurd cc
-fourth true false c d e h = absurd cc
-fourth false b c d e h = absurd cc
 
 -- each line that a script can declare is short
 short_line : (s : Setup) (l : Line) → is_line s l ≡ true → is_short_line l ≡ true
@@ -50,9 +40,9 @@ short_line s (line.Move x) h = refl
 short_all : (s : Setup) (ls : List Line) → list_all (is_line s) ls ≡ true → list_all is_short_line ls ≡ true
 short_all s [] h = refl
 short_all s (l ∷ ls) h =
-    let parts = both (is_line s l) (list_all (is_line s) ls) h in
+    let parts = both_true (is_line s l) (list_all (is_line s) ls) h in
     rw (short_line s l parts.0) (short_all s ls parts.1)
 
 pub declared_short : (s : Setup) (d : Declared) → is_declared s d ≡ true → list_all is_short_line d.lines ≡ true
 declared_short s d h =
-    short_all s d.lines (fourth (is_name d.name) (nat_lt d.topic (length s.topics)) (nat_lt d.cluster (length s.clusters)) (list_all (is_line s) d.lines) (stays_or_is_silent d.lines) h)
+    short_all s d.lines (and_fourth_of_five (is_name d.name) (nat_lt d.topic (length s.topics)) (nat_lt d.cluster (length s.clusters)) (list_all (is_line s) d.lines) (stays_or_is_silent d.lines) h)

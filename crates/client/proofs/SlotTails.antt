@@ -32,7 +32,7 @@ taken_long (o ∷ slots) (suc n) l = omega (arith, taken_long slots n (omega (ar
 taken_within : (slots : List (Option Held)) (n j : ℕ) → j < length (take n slots) → j < n
 taken_within slots n j l = omega (arith, l, length_taken slots n)
 
--- one more slot behind them changes none of them
+-- one more slot after them changes none of them
 pub taken_pushed : (slots : List (Option Held)) (o : Option Held) (n : ℕ) → n ≤ length slots → take n (slots ++ o ∷ []) ≡ take n slots
 taken_pushed slots o zero l = refl
 taken_pushed [] o (suc n) l = absurd (omega (arith, l))
@@ -96,7 +96,7 @@ none_came_all slots p n none past j = ⊎_elim (λ l. none j l) (λ g. ap (is_up
 index_of : (numbers : Held → ℕ × ℕ) (xs ys : List (Option Held)) (keys : List SlotKey) → xs ≡ ys → IsIndex numbers ys keys → IsIndex numbers xs keys
 index_of numbers xs ys keys same i = record { at = λ k. i.at k ∙ sym (ap (λ (zs : List (Option Held)). is_under numbers (get_or zs k.slot None) k) same) }
 
--- a message behind the indexed slots
+-- a message after the indexed slots
 pub pushed_behind : (numbers : Held → ℕ × ℕ) (slots : List (Option Held)) (n : ℕ) (keys : List SlotKey) (h : Held) → n ≤ length slots → IsIndex numbers (take n slots) keys → IsIndex numbers (take n (slots ++ Some h ∷ [])) keys
 pushed_behind numbers slots n keys h within i = index_of numbers (take n (slots ++ Some h ∷ [])) (take n slots) keys (taken_pushed slots (Some h) n within) i
 

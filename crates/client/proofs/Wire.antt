@@ -4,7 +4,7 @@ use Rattle.std.specs.Prelude.{Option, Some, None, if◌then◌else◌}
 use Rattle.std.proofs.lemmas.Bool.Decides.{nat_tests}
 use Rattle.geo_base.specs.declared.frame.Frame.{Frame}
 use Rattle.geo_base.specs.declared.frame.Frame.TheVariants as frame
-use Rattle.geo_base.specs.declared.marker.Place.TheVariants as place
+use Rattle.geo_base.specs.declared.marker.ClusterRef.TheVariants as cluster_ref
 use Rattle.geo_base.specs.declared.packet.Packet.{Packet}
 use Rattle.geo_base.specs.Client.{Client}
 use Rattle.geo_base.specs.Getting.{get, got_frame}
@@ -26,8 +26,8 @@ got_bare d k (frame.Send id seq source e) = refl
 got_bare d k (frame.SendReceipt id seq position) = refl
 got_bare d k (frame.SendError id seq code) = refl
 got_bare d k (frame.Message id position None e) = refl
-got_bare d k (frame.Message id position (Some (place.Known x)) e) = refl
-got_bare d k (frame.Message id position (Some (place.Stranger n)) e) = refl
+got_bare d k (frame.Message id position (Some (cluster_ref.Known x)) e) = refl
+got_bare d k (frame.Message id position (Some (cluster_ref.Stranger n)) e) = refl
 got_bare d k (frame.Ack id kind positions) = refl
 got_bare d k (frame.Flow id permits) = refl
 got_bare d k (frame.Unsubscribe id request) = refl

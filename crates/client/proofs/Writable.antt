@@ -1,5 +1,5 @@
 -- What a client sends has a text within the limit on frames, and its packets are written one by one.
-use Rattle.std.proofs.Common.{◌≡◌, ℕ, ◌+◌, ◌<◌, ◌≤◌, Bool, true, false, ◌&&◌, List, [], ◌∷◌, ◌++◌, length, take, get_or, nat_le, refl, sym, subst, arith}
+use Rattle.std.proofs.Common.{◌≡◌, ℕ, ◌+◌, ◌<◌, ◌≤◌, true, List, [], ◌∷◌, ◌++◌, length, take, get_or, nat_le, refl, sym, subst, arith}
 use Rattle.std.specs.Prelude.{Option, Some, None, IfSome}
 use Rattle.std.proofs.lemmas.Bool.Decides.{nat_tests}
 use Rattle.std.proofs.lemmas.List.{take_more}
@@ -8,11 +8,11 @@ use Rattle.geo_base.specs.declared.entry.Content.TheVariants as content
 use Rattle.geo_base.specs.declared.entry.Entry.{Entry}
 use Rattle.geo_base.specs.declared.frame.Frame.{Frame}
 use Rattle.geo_base.specs.declared.frame.Frame.TheVariants as frame
-use Rattle.geo_base.specs.declared.marker.Place.{Place}
+use Rattle.geo_base.specs.declared.marker.ClusterRef.{ClusterRef}
 use Rattle.geo_base.specs.declared.packet.Out.{Out}
 use Rattle.geo_base.specs.Entry.{is_data}
 use Rattle.geo_base.specs.Message.{is_message}
-use Rattle.geo_base.specs.Sizes.{entry_size, metadata_size, payload_size, place_name}
+use Rattle.geo_base.specs.Sizes.{entry_size, metadata_size, payload_size, cluster_ref_name}
 use Rattle.message_meta.specs.Known.{IsRest}
 use Rattle.frame_values.proofs.Entries.{no_rest}
 use Rattle.frame_values.proofs.Fitting.{fits}
@@ -21,10 +21,7 @@ use Rattle.frame_values.specs.Fitting.{IsShort, IsSmallCarried}
 use Rattle.geo_base.specs.declared.packet.WireOut.{WireOut}
 use Rattle.client.specs.Packets.{AreWritten, IsWrittenOut}
 use Rattle.client.specs.Sent.{IsSent}
-
-both : (a b : Bool) → (a && b) ≡ true → (a ≡ true) × (b ≡ true)
-both true b h = (refl, h)
-both false b h = absurd cc
+use Rattle.geo_base.proofs.Bools.{both_true}
 
 payload_is : (names : List (List ℕ)) (c : Content) (payload : List ℕ) → is_data c ≡ true → payload_size names c payload ≡ length payload
 payload_is names content.Data payload h = refl
@@ -34,16 +31,16 @@ payload_is names (content.Unread kind) payload h = absurd cc
 small_message : (names : List (List ℕ)) (e : Entry) → is_message e ≡ true → entry_size names e ≤ 5242880
 unfolding is_message
 small_message names e h =
-    let parts = both (is_data e.content) (nat_le (metadata_size e + length e.payload) 5242880) h in
+    let parts = both_true (is_data e.content) (nat_le (metadata_size e + length e.payload) 5242880) h in
     let small : metadata_size e + length e.payload ≤ 5242880 = grind (arith, nat_tests, parts.1) in
     let whole = payload_is names e.content e.payload parts.0 in
     omega (arith, small, whole)
 
-no_place : (names : List (List ℕ)) (o : Option Place) → o ≡ None → IfSome o (λ p. IsShort (place_name names p))
+no_place : (names : List (List ℕ)) (o : Option ClusterRef) → o ≡ None → IfSome o (λ p. IsShort (cluster_ref_name names p))
 no_place names None h = tt
 no_place names (Some p) h = absurd cc
 
-small_entry : (names : List (List ℕ)) (source : Option Place) (e : Entry) → source ≡ None → is_message e ≡ true → IsSmallCarried names source e
+small_entry : (names : List (List ℕ)) (source : Option ClusterRef) (e : Entry) → source ≡ None → is_message e ≡ true → IsSmallCarried names source e
 small_entry names source e none h = record { entry = small_message names e h; from = no_place names source none }
 
 kept_rest : (bytes : List ℕ) → bytes ≡ [] → IsRest bytes

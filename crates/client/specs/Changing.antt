@@ -11,7 +11,7 @@ use Rattle.client.specs.declared.client.outgoing.Connection.{Connection}
 
 -- all but a new connection do the client's next line
 abbrev pub changed : ClientChange → Client → Client
-changed change.Passes k = past k
+changed change.LineDone k = past k
 changed change.Produces k = record (past k) { produce = Some k.done }
 changed change.Publishes k = record (past k) { unanswered = k.unanswered ++ k.done ∷ [] }
 changed change.Subscribes k = record (past k) { sub = Some k.done; flow = None; held = [] }

@@ -138,39 +138,39 @@ impl Client {
         ensures { self.new ≡ changed change self.old }
     {
         match change {
-            ClientChange::Passes => {
-                self.pass_line();
+            ClientChange::LineDone => {
+                self.finish_line();
             }
-            ClientChange::Produces => self.produce = Some(self.pass_line()),
+            ClientChange::Produces => self.produce = Some(self.finish_line()),
             ClientChange::Publishes => {
-                let line = self.pass_line();
+                let line = self.finish_line();
                 self.unanswered.push_reserved(line);
             }
             ClientChange::Subscribes => {
-                self.sub = Some(self.pass_line());
+                self.sub = Some(self.finish_line());
                 self.flow = None;
                 self.held.clear();
             }
-            ClientChange::Permits => self.flow = Some(self.pass_line()),
+            ClientChange::Permits => self.flow = Some(self.finish_line()),
             ClientChange::Acknowledges(ident) => {
-                self.pass_line();
+                self.finish_line();
                 self.held.forget(&ident);
             }
             ClientChange::AcknowledgesTo(position) => {
-                self.pass_line();
+                self.finish_line();
                 self.held.forget_to(position);
             }
             ClientChange::AcknowledgesAll => {
-                self.pass_line();
+                self.finish_line();
                 self.held.forget_first(ACKED_AT_ONCE);
             }
             ClientChange::EndsSub => self.end_sub(),
             ClientChange::EndsProducer => {
-                self.pass_line();
+                self.finish_line();
                 self.produce = None;
             }
             ClientChange::Moves(cluster) => {
-                self.pass_line();
+                self.finish_line();
                 self.connect(cluster);
             }
             ClientChange::Reconnects => self.connect(self.cluster),
@@ -182,7 +182,7 @@ impl Client {
         requires { self.old.done + 1 < 2 ^ 64 }
         ensures { self.new ≡ record (past self.old) { sub = None; flow = None; held = [] } }
     {
-        self.pass_line();
+        self.finish_line();
         self.sub = None;
         self.flow = None;
         self.held.clear();
@@ -200,7 +200,7 @@ impl Client {
     }
 
     /// The next line is done; its index.
-    fn pass_line(&mut self) -> usize
+    fn finish_line(&mut self) -> usize
         requires { self.old.done + 1 < 2 ^ 64 }
         ensures line { result ≡ self.old.done }
         ensures client { self.new ≡ past self.old }

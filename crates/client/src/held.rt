@@ -2,7 +2,7 @@
 //!
 //! The first one of an identity, and each one up to a position, is found and given up in time logarithmic in what is held, in
 //! whatever order they came. The first so many are found by going over their slots and the emptied ones between, which are then
-//! behind the front. All slots go when nothing is held any more.
+//! after the front. All slots go when nothing is held any more.
 ghost use Rattle.std.specs.Prelude.{◌≡◌, ◌≤◌, ◌==◌, not, [], ◌∷◌, ◌++◌, map, filter, take, drop, length, IfOk, OnOk, OnErr};
 ghost use Rattle.geo_base.specs.declared.client.Held.{Held as HeldMessage};
 ghost use Rattle.geo_base.specs.Going.{first_held, without_first};

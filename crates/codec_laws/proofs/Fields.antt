@@ -23,7 +23,7 @@ use Rattle.codec_laws.proofs.Varints.{VarintAnswer, varint_answer}
 
 -- ---- values
 
--- the value and the bytes behind it
+-- the value and the bytes after it
 abbrev pub ValueAnswer : WireType → List ℕ → Type 0
 ValueAnswer w bytes = HasAnswer {X = Value × List ℕ} {E = FieldFault} (λ v. TakesValue w bytes v.0 v.1) (λ why. BrokenValue w bytes why)
 
@@ -89,11 +89,11 @@ type_of k =
       ]
     ]
 
--- the field and the bytes behind it
+-- the field and the bytes after it
 abbrev pub FieldAnswer : List ℕ → Type 0
 FieldAnswer bytes = HasAnswer {X = Field × List ℕ} {E = FieldFault} (λ f. TakesField bytes f.0 f.1) (λ why. BrokenField bytes why)
 
--- behind a tag that is right
+-- after a tag that is right
 valued : (bytes rest : List ℕ) (tag : ℕ) (w : WireType) → TakesVarint bytes tag rest → tag < 2 ^ 32 → tag % 8 ≡ wire_number w → 0 < tag / 8 → ValueAnswer w rest → FieldAnswer bytes
 valued bytes rest tag w t small is above (wrong why h) = wrong why (broken.behind t (broken.value small is above h))
 valued bytes rest tag w t small is above (right v s) =

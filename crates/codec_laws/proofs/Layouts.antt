@@ -12,7 +12,7 @@ use Rattle.codec_laws.proofs.AnswerBytes.{byte_at, cut_are, parts_are, be_below_
 
 -- ---- one size
 
--- a size and the bytes behind it
+-- a size and the bytes after it
 record Sized (bytes : List ℕ) : Type 0 where
   n : ℕ
   after : List ℕ
@@ -31,7 +31,7 @@ size_or_less bytes are =
       })
     ]
 
--- bytes behind their size, and what follows
+-- bytes after their size, and what follows
 abbrev Counted : List ℕ → Type 0
 Counted bytes = (a : List ℕ) × ((x : List ℕ) × (bytes ≡ sized a ++ x))
 
@@ -69,7 +69,7 @@ checksum_or (a ∷ b ∷ bytes) =
 abbrev ContentAnswer : List ℕ → Type 0
 ContentAnswer c = ((l : Layout) × (c ≡ content_text l)) ⊎ ((why : FrameFault) × BrokenContent c why)
 
--- behind the command
+-- after the command
 body_of : (c k after : List ℕ) → AreBytes after → c ≡ sized k ++ after → ContentAnswer c
 body_of c k [] are is = inl (record { command = k; body = None }, is)
 body_of c k (b ∷ after) are is =

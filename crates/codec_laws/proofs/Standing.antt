@@ -4,7 +4,7 @@ use Rattle.std.specs.Option.{option_map}
 use Rattle.geo_base.specs.declared.entry.Entry.{Entry}
 use Rattle.geo_base.specs.declared.frame.Frame.{Frame}
 use Rattle.geo_base.specs.declared.frame.Frame.TheVariants as frame
-use Rattle.geo_base.specs.declared.marker.Place.{Place}
+use Rattle.geo_base.specs.declared.marker.ClusterRef.{ClusterRef}
 use Rattle.pb_fields.specs.Canonical.{text}
 use Rattle.pulsar_commands.specs.declared.command.Command.{Command}
 use Rattle.pulsar_frames.specs.declared.frame.Body.{Body}
@@ -52,7 +52,7 @@ entry_says names b c = record {
 body_says : (names : List (List ℕ)) (c : Command) (b : Body) → AreBytes b.payload → (f : Frame) × Carries names c b f
 body_says names c b are =
     let content = content_answer names b.meta.marker b.payload are in
-    let source : Option Place = option_map (place_of names) b.meta.replicated_from in
+    let source : Option ClusterRef = option_map (place_of names) b.meta.replicated_from in
     (carrying c source (entry_with names b content), record { source = source; entry = entry_with names b content; is = refl; says = entry_says names b content })
 
 -- the payload of a message is of the frame's bytes

@@ -9,7 +9,7 @@ use Rattle.pb_fields.proofs.Varints.{HasRead, HasRead-none, HasRead-more, HasRea
 use Rattle.codec_laws.specs.Answers.{AreBytes, HasAnswer, right, wrong}
 use Rattle.codec_laws.proofs.AnswerBytes.{byte_at}
 
--- the number and the bytes behind it
+-- the number and the bytes after it
 abbrev pub VarintAnswer : List ℕ → Type 0
 VarintAnswer bytes = HasAnswer {X = ℕ × List ℕ} {E = FieldFault} (λ v. TakesVarint bytes v.0 v.1) (λ why. BrokenVarint bytes why)
 
@@ -21,7 +21,7 @@ tenth i b =
       | inl nine ↦ elim (cases_lt 1 b) [ inl above ↦ inr (nine, above) | inr small ↦ inl (λ e. small) ]
     ]
 
--- what comes behind some groups that go on, of which ten may be
+-- what comes after some groups that go on, of which ten may be
 varint_from : (left : ℕ) (bytes : List ℕ) (i n : ℕ) → left + i ≡ 10 → AreBytes bytes → HasRead bytes i n → VarintAnswer bytes
 varint_from zero bytes i n so are h = absurd (let le = h.within in omega arith)
 varint_from (suc left) bytes i n so are h =

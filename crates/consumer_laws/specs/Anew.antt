@@ -24,7 +24,7 @@ use Rattle.geo_base.specs.World.{World, topic_at}
 use Rattle.world_laws.specs.AlikeWorlds.{world_on}
 use Rattle.world_laws.specs.Telling.{settling, told_from}
 
--- the world behind these steps and a settling
+-- the world after these steps and a settling
 abbrev pub settled_behind_all : Setup → List Step → World
 settled_behind_all s es = run s (es ++ step.Settle ∷ [])
 
@@ -39,7 +39,7 @@ OnlySettledAt s w settled t n =
 
 -- SEEKS
 
--- an operator's seeks of subscription number m of topic t at some clusters, one behind the other
+-- an operator's seeks of subscription number m of topic t at some clusters, one after the other
 abbrev pub all_sought : ℕ → ℕ → (ℕ → Option Position) → List ℕ → List Step
 all_sought t m to [] = []
 all_sought t m to (x ∷ xs) = step.Plain (event.Seek t x m (to x)) ∷ all_sought t m to xs
@@ -64,7 +64,7 @@ abbrev pub NoUpdateSince : Setup → World → World → ℕ → List ℕ → Ty
 NoUpdateSince s v w t n = (x i : ℕ) (e : Entry) (remote : List ClusterPosition) → x < length s.clusters → length (topic_at s v t x).entries ≤ i
     → IsEntry (topic_at s w t x) i e → e.content ≡ content.Marked (marker.Update n remote) → ⊥
 
--- sought: behind a settling, and seeks at every cluster with nothing between, only what was settled since the settling counts, which is what
+-- sought: after a settling, and seeks at every cluster with nothing between, only what was settled since the settling counts, which is what
 -- stands below the seeks and what clients and operators settled later. deleted: where the subscription is at no cluster, and no update of it
 -- was stored since a settling, only what is settled from then on counts, if it ever is there again
 pub record LawAnew : Type 0 where

@@ -45,7 +45,7 @@ got_event s w t n e = []
 abbrev pub handed_event : Setup → World → ℕ → List ℕ → Event → List Ident
 handed_event s w t n e = skipped_event s w t n e ++ got_event s w t n e
 
--- behind the first k durable writes of an event; a get has none
+-- after the first k durable writes of an event; a get has none
 abbrev pub handed_behind : ℕ → Setup → World → ℕ → List ℕ → Event → List Ident
 handed_behind k s w t n e = if nat_lt 0 k then skipped_event s w t n e else []
 

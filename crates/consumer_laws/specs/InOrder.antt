@@ -1,9 +1,9 @@
--- In order: where one consumer at a time is served, what the next get of a client takes comes behind all that stands before it.
+-- In order: where one consumer at a time is served, what the next get of a client takes comes after all that stands before it.
 use Rattle.std.specs.Prelude.{◌≡◌, ℕ, ◌<◌, ◌⊎◌, true, List, length, Option, Some}
 use Rattle.geo_base.specs.declared.entry.Entry.{Entry}
 use Rattle.geo_base.specs.declared.frame.Frame.TheVariants as frame
 use Rattle.geo_base.specs.declared.frame.SubKind.{SubKind}
-use Rattle.geo_base.specs.declared.marker.Place.{Place}
+use Rattle.geo_base.specs.declared.marker.ClusterRef.{ClusterRef}
 use Rattle.geo_base.specs.declared.packet.Packet.{Packet}
 use Rattle.geo_base.specs.declared.position.Position.{Position}
 use Rattle.geo_base.specs.Entry.{goes_to, is_data, same_stream}
@@ -22,7 +22,7 @@ pub record GetsNext (s : Setup) (w : World) (c : ℕ) (n : List ℕ) (kind : Sub
   pub connected : (client_at s w c).connected ≡ true
   pub id : ℕ
   pub position : Position
-  pub source : Option Place
+  pub source : Option ClusterRef
   pub is : packet.frame ≡ frame.Message id position source e
   pub sub : (client_at s w c).sub ≡ Some id
   pub line : IsKindLine (declared_at s c) id n kind

@@ -3,7 +3,7 @@ use Rattle.std.specs.Prelude.{◌≡◌, ℕ, ◌<◌, true, List, length, Optio
 use Rattle.geo_base.specs.declared.entry.Entry.{Entry}
 use Rattle.geo_base.specs.declared.frame.Frame.TheVariants as frame
 use Rattle.geo_base.specs.declared.frame.SubKind.{SubKind}
-use Rattle.geo_base.specs.declared.marker.Place.{Place}
+use Rattle.geo_base.specs.declared.marker.ClusterRef.{ClusterRef}
 use Rattle.geo_base.specs.declared.packet.Packet.{Packet}
 use Rattle.geo_base.specs.declared.position.Position.{Position}
 use Rattle.geo_base.specs.Laws.{BetweenEvents, IsShort}
@@ -20,7 +20,7 @@ pub record MessageAt (ledgers : List ℕ) (sent : List Packet) (place session id
   pub at : slice_get sent place ≡ Some packet
   pub same : packet.session ≡ session
   pub position : Position
-  pub source : Option Place
+  pub source : Option ClusterRef
   pub entry : Entry
   pub is : packet.frame ≡ frame.Message id position source entry
   pub stands : index_of ledgers position ≡ Some index

@@ -11,7 +11,7 @@ ghost use Rattle.consumer_laws.specs.Anew.{LawAnew};
 /// Where a subscription is at no cluster, and no update of it was stored since a settling, only what is settled from then on counts, if it
 /// ever is there again: a deletion everywhere is not undone.
 ///
-/// Between any two events behind the last seek, or from where the subscription is gone, also inside settling, for every setup that a
+/// Between any two events after the last seek, or from where the subscription is gone, also inside settling, for every setup that a
 /// script can declare, in worlds of fewer than 2^62 events.
 pub fn law_anew()
     ensures { LawAnew }

@@ -5,7 +5,7 @@ ghost use Rattle.consumer_laws.specs.Rising.{LawRising};
 
 /// Nothing is skipped unseen. Each message that the cursor of a subscription has, at whatever cluster, is handed out on that subscription
 /// by then: some client took it by a get while its sub line in force named the subscription, at whatever cluster; or it was passed over
-/// openly, by a creation at Latest behind it or by an operator's seek. At the end of every run, also of one that a limit ends, and at every
+/// openly, by a creation at Latest after it or by an operator's seek. At the end of every run, also of one that a limit ends, and at every
 /// moment of it, also inside settling and after each single durable write. It is told by topic and name, over all lives of a name, and says
 /// nothing of what a client did with a message that it took.
 ///

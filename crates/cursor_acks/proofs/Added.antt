@@ -1,4 +1,4 @@
--- One range in place of some is one more acknowledged index, or all up to one.
+-- One range in range_index of some is one more acknowledged index, or all up to one.
 use Rattle.std.proofs.Common.{◌≡◌, ℕ, zero, suc, ◌+◌, true, false, List, inl, inr, refl, sym, ◌∙◌, arith}
 use Rattle.std.proofs.lemmas.Bool.{cases_lt}
 use Rattle.std.proofs.lemmas.Bool.Decides.{nat_tests}
@@ -6,7 +6,7 @@ use Rattle.geo_base.specs.Cursor.{below, has, with_index, with_indexes}
 use Rattle.cursor_acks.specs.declared.range.IndexRange.{IndexRange}
 use Rattle.cursor_acks.specs.Acks.{has_before}
 use Rattle.cursor_acks.specs.Ranges.{covers, indexes_of}
-use Rattle.cursor_acks.specs.Places.{AreKept, Ends, IsPlace}
+use Rattle.cursor_acks.specs.RangeIndexes.{AreKept, Ends, IsPlace}
 use Rattle.cursor_acks.proofs.Covered.{has_indexes, rising_indexes}
 use Rattle.cursor_acks.proofs.Edited.{Fits, covers_edited, edited, edited_kept}
 use Rattle.cursor_acks.proofs.Sets.{Rising, has_range, has_with_index, has_with_indexes, rising_with_index, rising_with_indexes, same_set}

@@ -1,4 +1,4 @@
--- One range in place of some is a range more of acknowledged indexes, none of which was acknowledged.
+-- One range in range_index of some is a range more of acknowledged indexes, none of which was acknowledged.
 use Rattle.std.proofs.Common.{◌≡◌, ℕ, zero, suc, ◌+◌, ◌-◌, ◌<◌, ◌≤◌, Bool, true, false, List, length, get_or, inl, inr, refl, ap, sym, ◌∙◌, arith}
 use Rattle.std.specs.Prelude.{nat_lt, not, ◌||◌}
 use Rattle.std.specs.List.{list_all, range_with_len}
@@ -9,11 +9,11 @@ use Rattle.geo_base.specs.Cursor.{has, with_index, with_indexes}
 use Rattle.cursor_acks.specs.declared.range.IndexRange.{IndexRange}
 use Rattle.cursor_acks.specs.Acks.{are_free, from_to, has_before, stand_alone, stands_alone}
 use Rattle.cursor_acks.specs.Ranges.{covers, indexes_of}
-use Rattle.cursor_acks.specs.Places.{AreKept, Begins, Ends, IsPlace}
+use Rattle.cursor_acks.specs.RangeIndexes.{AreKept, Begins, Ends, IsPlace}
 use Rattle.cursor_acks.proofs.Covered.{covers_at, has_indexes, rising_indexes, uncovered}
 use Rattle.cursor_acks.proofs.Edited.{Fits, covers_edited, edited, edited_kept}
 use Rattle.cursor_acks.proofs.Added.{before_out}
-use Rattle.cursor_acks.proofs.Places.{rises}
+use Rattle.cursor_acks.proofs.RangeIndexes.{rises}
 use Rattle.cursor_acks.proofs.Sets.{Rising, has_range, has_with_indexes, rising_with_indexes, same_set}
 
 -- ---- none of some indexes is acknowledged
@@ -29,7 +29,7 @@ pub all_free : (set : List ℕ) (a n : ℕ) → ((i : ℕ) → a ≤ i → i < a
 all_free set a zero h = refl
 all_free set a (suc n) h = grind (arith, h a (omega arith) (omega arith), all_free set (a + 1) n (λ i low high. h i (omega (arith, low)) (omega (arith, high))))
 
--- ---- what the test at a place answers
+-- ---- what the test at a range_index answers
 
 pub free_there : (rs : List IndexRange) (first last at : ℕ) → AreKept rs → IsPlace rs first at → ((d : IndexRange) → at < length rs → last < (get_or rs at d).first) → first ≤ last → are_free (indexes_of rs) first last ≡ true
 free_there rs first last at h p out le =
@@ -60,7 +60,7 @@ free_first rs first last free le = sym (has_indexes rs first) ∙ free_at (index
 pub range_fits : (rs : List IndexRange) (first last at at' from to : ℕ) (r : IndexRange) → AreKept rs → first ≤ last → are_free (indexes_of rs) first last ≡ true
     → IsPlace rs first at → IsPlace rs (last + 1) at' → Begins rs first at from r.first → Ends rs last at' to r.last → Fits rs from to r
 range_fits rs first last at at' from to r h le free p q b e =
-    let place : at ≤ at' = elim (cases_lt at' at) [
+    let range_index : at ≤ at' = elim (cases_lt at' at) [
       | inl lt ↦
           let d : IndexRange = r in
           let n : at' < length rs = omega (arith, lt, p.within) in
@@ -69,7 +69,7 @@ range_fits rs first last at at' from to r h le free p q b e =
     ] in
     let out : covers rs first ≡ false = free_first rs first last free le in
     record {
-      order = omega (arith, b.order, place, e.order);
+      order = omega (arith, b.order, range_index, e.order);
       within = e.within;
       own = omega (arith, b.reached, le, e.reached);
       bounded = e.bounded;
@@ -100,7 +100,7 @@ range_added rs first last at at' from to r h le f b e =
     ∙ covers_edited rs from to r j f
     ∙ grind (arith, nat_tests, has_with_indexes (indexes_of rs) (from_to first last) j, has_range first (last + 1 - first) j, has_indexes rs j, b.held j, e.held j, b.reached, e.reached, le))
 
--- the indexes that are not there stand at one place
+-- the indexes that are not there stand at one range_index
 pub place_free : (rs : List IndexRange) (first last at : ℕ) → AreKept rs → IsPlace rs first at → first ≤ last → are_free (indexes_of rs) first last ≡ true → IsPlace rs (last + 1) at
 place_free rs first last at h p le free = record {
   within = p.within;

@@ -10,7 +10,7 @@ use Rattle.cursor_acks.proofs.Parts.{gone_excess}
 abbrev IsSome : Ranges → Type 0
 IsSome b = 0 < length b
 
--- another block in place of one
+-- another block in range_index of one
 pub counted_set : (xs : List Ranges) (over over' k : ℕ) (e e' : Ranges) → AreCounted xs over → k < length xs → e ≡ get_or xs k e → 0 < length e' → over' + (length e - 32) ≡ over + (length e' - 32) → AreCounted (set xs k e') over'
 counted_set xs over over' k e e' h lt is pos sums = record {
   some = All-set IsSome xs k e' pos h.some;

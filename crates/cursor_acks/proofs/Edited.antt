@@ -1,4 +1,4 @@
--- What one range in place of some makes of the ranges.
+-- What one range in range_index of some makes of the ranges.
 use Rattle.std.proofs.Common.{◌≡◌, ℕ, suc, ◌+◌, ◌-◌, ◌<◌, ◌≤◌, ◌^◌, true, false, List, ◌∷◌, inl, inr, ◌++◌, length, get_or, take, drop, refl, sym, ◌∙◌, arith}
 use Rattle.std.specs.Prelude.{◌||◌}
 use Rattle.std.specs.List.{AllWithin}
@@ -7,10 +7,10 @@ use Rattle.std.proofs.lemmas.Bool.Decides.{nat_tests}
 use Rattle.std.proofs.lemmas.List.{get_or-append-add, get_or-drop, get_or-take, get_or_append_left, get_or_at, length-append, length-drop, length-take-le}
 use Rattle.cursor_acks.specs.declared.range.IndexRange.{IndexRange}
 use Rattle.cursor_acks.specs.Ranges.{covers, lies_in}
-use Rattle.cursor_acks.specs.Places.{AreKept}
+use Rattle.cursor_acks.specs.RangeIndexes.{AreKept}
 use Rattle.cursor_acks.proofs.Covered.{covers_at, uncovered}
 
--- a range fits in place of those from one place to before another
+-- a range fits in range_index of those from one range_index to before another
 pub record Fits (rs : List IndexRange) (from to : ℕ) (r : IndexRange) : Type 0 where
   pub order : from ≤ to
   pub within : to ≤ length rs

@@ -5,11 +5,11 @@ use Rattle.std.specs.List.Sorted.{IsNonDecreasingBy, IsPartitionPoint}
 use Rattle.std.proofs.lemmas.Bool.{cases_lt, ltb-false, ltb-true}
 use Rattle.std.proofs.lemmas.List.{drop_all, drop_more, get_or_append_left, get_or_default, length-append}
 use Rattle.cursor_acks.specs.declared.range.IndexRange.{IndexRange}
-use Rattle.cursor_acks.specs.declared.place.Place.{Place}
+use Rattle.cursor_acks.specs.declared.range_index.RangeIndex.{RangeIndex}
 use Rattle.cursor_acks.specs.Blocks.{IsFound, IsRange, IsSlot, count_before, end_of, flat, joined, no_range}
-use Rattle.cursor_acks.specs.Places.{AreKept, IsPlace}
+use Rattle.cursor_acks.specs.RangeIndexes.{AreKept, IsPlace}
 use Rattle.cursor_acks.proofs.Joined.{Ranges, block_range, block_within, next_block}
-use Rattle.cursor_acks.proofs.Places.{place_at, rises}
+use Rattle.cursor_acks.proofs.RangeIndexes.{place_at, rises}
 
 -- ---- a part of ranges that are kept
 
@@ -34,7 +34,7 @@ block_kept bs k lt h = record {
   bounded = λ o d n. rw (block_range bs k o d lt n) at (h.bounded (count_before bs k + o) d (below_all bs k o lt n));
 }
 
--- there are fewer of them than a list can count: each begins at least two behind the one before
+-- there are fewer of them than a list can count: each begins at least two after the one before
 far : (rs : Ranges) → AreKept rs → (k : ℕ) (d : IndexRange) → k < length rs → 2 * k ≤ (get_or rs k d).first
 far rs h zero d n = omega arith
 far rs h (suc k) d n = omega (arith, far rs h k d (omega (arith, n)), h.apart.each k d (omega (arith, n)), h.apart.gaps k (suc k) d (omega arith) n)
@@ -97,12 +97,12 @@ end_block (b ∷ []) zero e = omega (arith, length-append b [])
 end_block (b ∷ c ∷ bs) zero e = absurd (omega (arith, e))
 end_block (b ∷ bs) (suc k) e = omega (arith, length-append b (joined bs), end_block bs k (omega (arith, e)))
 
-pub flat_zero : (bs : List Ranges) (p : Place) → p.block ≡ 0 → p.offset ≡ 0 → flat bs p ≡ 0
+pub flat_zero : (bs : List Ranges) (p : RangeIndex) → p.block ≡ 0 → p.offset ≡ 0 → flat bs p ≡ 0
 flat_zero bs p e f =
     let start : count_before bs p.block ≡ 0 = ap (λ n. count_before bs n) e ∙ count_zero bs in
     omega (arith, start, f)
 
--- ---- the place
+-- ---- the range_index
 
 at_range : (bs : List Ranges) (k o i : ℕ) → AreKept (joined bs) → k < length bs → o ≤ length (get_or bs k []) → IsPlace (get_or bs k []) i o
     → (0 < k → (0 < length (get_or bs (k - 1) [])) × (end_of (get_or bs (k - 1) []) < i)) → 0 < count_before bs k + o → (get_or (joined bs) (count_before bs k + o - 1) no_range).last < i
@@ -160,21 +160,21 @@ found_at bs k o i h lt some low high p =
     let full : k + 1 < length bs → o < length (get_or bs k []) = λ more. found_full bs k o i (some k more) (high more) p in
     (record { slot = record { block = lt; offset = p.within }; full = full }, found_place bs k o i h lt some low p full)
 
--- ---- the range at a place, and the place before it
+-- ---- the range at a range_index, and the range_index before it
 
-pub range_at : (bs : List Ranges) (p : Place) (d : IndexRange) → IsRange bs p → get_or (joined bs) (flat bs p) d ≡ get_or (get_or bs p.block []) p.offset d
+pub range_at : (bs : List Ranges) (p : RangeIndex) (d : IndexRange) → IsRange bs p → get_or (joined bs) (flat bs p) d ≡ get_or (get_or bs p.block []) p.offset d
 range_at bs p d h = block_range bs p.block p.offset d h.block h.offset
 
-pub range_within : (bs : List Ranges) (p : Place) → IsRange bs p → flat bs p < length (joined bs)
+pub range_within : (bs : List Ranges) (p : RangeIndex) → IsRange bs p → flat bs p < length (joined bs)
 range_within bs p h = below_all bs p.block p.offset h.block h.offset
 
-pub range_found : (bs : List Ranges) (p : Place) → IsRange bs p → IsFound bs p
+pub range_found : (bs : List Ranges) (p : RangeIndex) → IsRange bs p → IsFound bs p
 range_found bs p h = record {
   slot = record { block = h.block; offset = omega (arith, h.offset) };
   full = λ _. h.offset;
 }
 
-pub found_end : (bs : List Ranges) (p : Place) → IsFound bs p → length (get_or bs p.block []) ≤ p.offset → length (joined bs) ≤ flat bs p
+pub found_end : (bs : List Ranges) (p : RangeIndex) → IsFound bs p → length (get_or bs p.block []) ≤ p.offset → length (joined bs) ≤ flat bs p
 found_end bs p h over =
     let last : p.block + 1 ≡ length bs = elim (cases_lt (p.block + 1) (length bs)) [
       | inl more ↦ absurd (omega (arith, h.full more, over))
@@ -182,11 +182,11 @@ found_end bs p h over =
     ] in
     omega (arith, end_block bs p.block last, over)
 
-pub range_before : (bs : List Ranges) (p : Place) → IsSlot bs p → 0 < p.offset
+pub range_before : (bs : List Ranges) (p : RangeIndex) → IsSlot bs p → 0 < p.offset
     → IsRange bs (record { block = p.block; offset = p.offset - 1 }) × (flat bs (record { block = p.block; offset = p.offset - 1 }) + 1 ≡ flat bs p)
 range_before bs p h pos = (record { block = h.block; offset = omega (arith, h.offset, pos) }, omega (arith, pos))
 
-pub last_of_block : (bs : List Ranges) (p : Place) (n : ℕ) → IsSlot bs p → 0 < p.block → p.offset ≡ 0 → n ≡ length (get_or bs (p.block - 1) []) → 0 < n
+pub last_of_block : (bs : List Ranges) (p : RangeIndex) (n : ℕ) → IsSlot bs p → 0 < p.block → p.offset ≡ 0 → n ≡ length (get_or bs (p.block - 1) []) → 0 < n
     → IsRange bs (record { block = p.block - 1; offset = n - 1 }) × (flat bs (record { block = p.block - 1; offset = n - 1 }) + 1 ≡ flat bs p)
 last_of_block bs p n h pos start size some =
     let before : p.block - 1 < length bs = omega (arith, h.block) in

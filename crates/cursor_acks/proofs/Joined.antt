@@ -78,7 +78,7 @@ drop_joined bs k o lt w =
     let next : k + 1 ≡ suc k = omega arith in
     ap (λ n. joined (drop o (get_or bs k []) ∷ drop n bs)) next ∙ drop_from bs k o lt w
 
--- a block of the same length in place of one moves no place
+-- a block of the same length in range_index of one moves no range_index
 pub same_places : (bs : List Ranges) (k : ℕ) (b : Ranges) (j : ℕ) → length b ≡ length (get_or bs k []) → (count_before (set bs k b) j ≡ count_before bs j) × (length (get_or (set bs k b) j []) ≡ length (get_or bs j []))
 same_places [] k b j e = (refl, refl)
 same_places (c ∷ bs) zero b zero e = (refl, e)

@@ -1,7 +1,7 @@
 pub mod Sets
 pub mod Covered
 pub mod OneList
-pub mod Places
+pub mod RangeIndexes
 pub mod Edited
 pub mod Added
 pub mod AddedRange

@@ -13,7 +13,7 @@ covered_from r rs i h e =
     λ lt. uncovered (r ∷ rs) i (λ k d n a b. grind (arith, h.gaps 0 k d, h.each 0 d)) in
     grind (arith, low, e)
 
--- nor is what lies right behind it, nor what it covers by the others
+-- nor is what lies right after it, nor what it covers by the others
 tail_uncovered : (r : IndexRange) (rs : List IndexRange) (i : ℕ) → AreApart (r ∷ rs) → i ≤ r.last + 1 → covers rs i ≡ false
 tail_uncovered r rs i h le =
     uncovered rs i (λ k d n a b. omega (arith, h.gaps 0 (suc k) d (omega arith) (omega arith)))

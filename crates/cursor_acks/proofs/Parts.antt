@@ -5,7 +5,7 @@ use Rattle.std.proofs.lemmas.Bool.{cases_lt}
 use Rattle.std.proofs.Math.Seq.{drop-append-add}
 use Rattle.std.proofs.lemmas.List.{drop-append-le, drop_at, drop_more, get_or_append_left, get_or_at, length-append, length-drop, length-set, length-take-le, nil_from_length, set-append_left, set_at, set_split, take-append-le, take-take}
 use Rattle.cursor_acks.specs.declared.range.IndexRange.{IndexRange}
-use Rattle.cursor_acks.specs.declared.place.Place.{Place}
+use Rattle.cursor_acks.specs.declared.range_index.RangeIndex.{RangeIndex}
 use Rattle.cursor_acks.specs.Blocks.{AreParts, IsRange, IsSlot, count_before, excess, flat, joined, spare_of, split_at}
 use Rattle.cursor_acks.proofs.Joined.{Ranges, drop_joined, edit_joined, excess_append, excess_at, excess_drop, excess_set, joined_append, same_places, split_before, split_last, split_length, split_lower, split_upper}
 
@@ -57,19 +57,19 @@ set_end xs l k o r e w =
     ∙ edit_end xs l k o (suc o) (r ∷ []) e (omega (arith, w)) (omega (arith, w))
     ∙ ap (λ n. take (count_before (xs ++ l ∷ []) k + o) (joined (xs ++ l ∷ [])) ++ r ∷ drop n (joined (xs ++ l ∷ []))) next
 
--- it moves no place
-same_range : (bs : List Ranges) (k : ℕ) (b : Ranges) (p : Place) → length b ≡ length (get_or bs k []) → IsRange bs p → IsRange (set bs k b) p × (flat (set bs k b) p ≡ flat bs p)
+-- it moves no range_index
+same_range : (bs : List Ranges) (k : ℕ) (b : Ranges) (p : RangeIndex) → length b ≡ length (get_or bs k []) → IsRange bs p → IsRange (set bs k b) p × (flat (set bs k b) p ≡ flat bs p)
 same_range bs k b p e h =
     let same = same_places bs k b p.block e in
     (record { block = omega (arith, h.block, length-set bs k b); offset = omega (arith, same.1, h.offset) }, omega (arith, same.0))
 
-pub places_first : (xs : List Ranges) (l : Ranges) (k o : ℕ) (r : IndexRange) (p : Place) → k < length xs → IsRange (xs ++ l ∷ []) p
+pub places_first : (xs : List Ranges) (l : Ranges) (k o : ℕ) (r : IndexRange) (p : RangeIndex) → k < length xs → IsRange (xs ++ l ∷ []) p
     → IsRange (set xs k (set (get_or xs k []) o r) ++ l ∷ []) p × (flat (set xs k (set (get_or xs k []) o r) ++ l ∷ []) p ≡ flat (xs ++ l ∷ []) p)
 places_first xs l k o r p lt h =
     rw (← set-append_left xs (l ∷ []) k (set (get_or xs k []) o r) lt)
     (same_range (xs ++ l ∷ []) k (set (get_or xs k []) o r) p (omega (arith, length-set (get_or xs k []) o r, ap length (get_first xs l k lt))) h)
 
-pub places_end : (xs : List Ranges) (l : Ranges) (o : ℕ) (r : IndexRange) (p : Place) → IsRange (xs ++ l ∷ []) p
+pub places_end : (xs : List Ranges) (l : Ranges) (o : ℕ) (r : IndexRange) (p : RangeIndex) → IsRange (xs ++ l ∷ []) p
     → IsRange (xs ++ set l o r ∷ []) p × (flat (xs ++ set l o r ∷ []) p ≡ flat (xs ++ l ∷ []) p)
 places_end xs l o r p h =
     rw (← set_at xs l [] (set l o r) (length xs) refl)
@@ -189,8 +189,8 @@ split_first xs l k lt = sym (split_before xs l k lt)
 pub split_end : (xs : List Ranges) (l : Ranges) (k : ℕ) → k ≡ length xs → (xs ++ take 32 l ∷ []) ++ drop 32 l ∷ [] ≡ split_at (xs ++ l ∷ []) k
 split_end xs l k e = rw e (sym (split_last xs l))
 
--- where a place stands then
-pub low_half : (bs : List Ranges) (p : Place) → IsSlot bs p → length (get_or bs p.block []) ≡ 64 → p.offset ≤ 32
+-- where a range_index stands then
+pub low_half : (bs : List Ranges) (p : RangeIndex) → IsSlot bs p → length (get_or bs p.block []) ≡ 64 → p.offset ≤ 32
     → IsSlot (split_at bs p.block) p × ((flat (split_at bs p.block) p ≡ flat bs p) × (length (get_or (split_at bs p.block) p.block []) < 64))
 low_half bs p h full low =
     let lower = split_lower bs p.block h.block in
@@ -199,7 +199,7 @@ low_half bs p h full low =
       (omega (arith, lower.0), omega (arith, size)),
     )
 
-pub high_half : (bs : List Ranges) (p q : Place) → IsSlot bs p → length (get_or bs p.block []) ≡ 64 → 32 < p.offset → q.block ≡ p.block + 1 → q.offset ≡ p.offset - 32
+pub high_half : (bs : List Ranges) (p q : RangeIndex) → IsSlot bs p → length (get_or bs p.block []) ≡ 64 → 32 < p.offset → q.block ≡ p.block + 1 → q.offset ≡ p.offset - 32
     → IsSlot (split_at bs p.block) q × ((flat (split_at bs p.block) q ≡ flat bs p) × (length (get_or (split_at bs p.block) q.block []) < 64))
 high_half bs p q h full high e f =
     let upper = split_upper bs p.block h.block (omega (arith, full)) in

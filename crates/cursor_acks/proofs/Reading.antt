@@ -8,9 +8,9 @@ use Rattle.geo_base.specs.Cursor.{has, mark, mark_from, next_open}
 use Rattle.cursor_acks.specs.declared.range.IndexRange.{IndexRange}
 use Rattle.cursor_acks.specs.Acks.{IsFirstOpen, if_below}
 use Rattle.cursor_acks.specs.Ranges.{covers, indexes_of}
-use Rattle.cursor_acks.specs.Places.{AreKept, IsPlace}
+use Rattle.cursor_acks.specs.RangeIndexes.{AreKept, IsPlace}
 use Rattle.cursor_acks.proofs.Covered.{apart_tail, covers_at, has_indexes, rising_indexes, uncovered}
-use Rattle.cursor_acks.proofs.Places.{place_out}
+use Rattle.cursor_acks.proofs.RangeIndexes.{place_out}
 use Rattle.cursor_acks.proofs.Sets.{Rising}
 
 mark_stops : (xs : List ℕ) (m : ℕ) → Rising (m + 1) xs → mark_from xs m ≡ m

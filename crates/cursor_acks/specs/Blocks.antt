@@ -2,7 +2,7 @@
 use Rattle.std.specs.Prelude.{◌≡◌, ℕ, zero, suc, ◌+◌, ◌-◌, ◌*◌, ◌≤◌, ◌<◌, ◌^◌, min, List, [], ◌∷◌, ◌++◌, length, get_or, take, drop}
 use Rattle.std.specs.List.{All}
 use Rattle.cursor_acks.specs.declared.range.IndexRange.{IndexRange}
-use Rattle.cursor_acks.specs.declared.place.Place.{Place}
+use Rattle.cursor_acks.specs.declared.range_index.RangeIndex.{RangeIndex}
 
 -- blocks in order, and how many more of them find room
 pub record BlockList : Type 0 where
@@ -20,8 +20,8 @@ count_before [] k = 0
 count_before (b ∷ bs) zero = 0
 count_before (b ∷ bs) (suc k) = length b + count_before bs k
 
--- how many ranges stand before a place
-abbrev pub flat : List (List IndexRange) → Place → ℕ
+-- how many ranges stand before a range_index
+abbrev pub flat : List (List IndexRange) → RangeIndex → ℕ
 flat bs p = count_before bs p.block + p.offset
 
 -- what is read where no range stands
@@ -42,18 +42,18 @@ pub record AreCounted (bs : List (List IndexRange)) (over : ℕ) : Type 0 where
   pub some : All (λ (b : List IndexRange). 0 < length b) bs
   pub counted : over ≡ excess bs
 
--- a place where a range can be put in
-pub record IsSlot (bs : List (List IndexRange)) (p : Place) : Type 0 where
+-- a range_index where a range can be put in
+pub record IsSlot (bs : List (List IndexRange)) (p : RangeIndex) : Type 0 where
   pub block : p.block < length bs
   pub offset : p.offset ≤ length (get_or bs p.block [])
 
--- a place where a range stands
-pub record IsRange (bs : List (List IndexRange)) (p : Place) : Type 0 where
+-- a range_index where a range stands
+pub record IsRange (bs : List (List IndexRange)) (p : RangeIndex) : Type 0 where
   pub block : p.block < length bs
   pub offset : p.offset < length (get_or bs p.block [])
 
--- a place where a range stands, or the end of the last block
-pub record IsFound (bs : List (List IndexRange)) (p : Place) : Type 0 where
+-- a range_index where a range stands, or the end of the last block
+pub record IsFound (bs : List (List IndexRange)) (p : RangeIndex) : Type 0 where
   pub slot : IsSlot bs p
   pub full : p.block + 1 < length bs → p.offset < length (get_or bs p.block [])
 

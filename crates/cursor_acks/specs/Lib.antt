@@ -1,4 +1,4 @@
 pub mod Acks
 pub mod Blocks
-pub mod Places
+pub mod RangeIndexes
 pub mod Ranges

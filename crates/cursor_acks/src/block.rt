@@ -67,7 +67,7 @@ impl RangeBlock {
         self.items[len - 1].last
     }
 
-    /// Another range at a place.
+    /// Another range at a range_index.
     pub(crate) fn set(&mut self, at: usize, range: IndexRange)
         requires { at < length self.old }
         ensures { self.new ≡ slice_set self.old at range }
@@ -75,7 +75,7 @@ impl RangeBlock {
         self.items[at] = range;
     }
 
-    /// One range more at a place.
+    /// One range more at a range_index.
     pub(crate) fn insert(&mut self, at: usize, range: IndexRange)
         requires within { at ≤ length self.old }
         requires room { length self.old < 64 }
@@ -87,7 +87,7 @@ impl RangeBlock {
         }
     }
 
-    /// The range at a place goes.
+    /// The range at a range_index goes.
     pub(crate) fn remove(&mut self, at: usize)
         requires { at < length self.old }
         ensures { self.new ≡ take at self.old ++ drop (at + 1) self.old }
@@ -95,7 +95,7 @@ impl RangeBlock {
         self.items.remove(at);
     }
 
-    /// The ranges before a place go.
+    /// The ranges before a range_index go.
     pub(crate) fn drop_before(&mut self, at: usize)
         requires { at ≤ length self.old }
         ensures { self.new ≡ drop at self.old }

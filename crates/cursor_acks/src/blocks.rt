@@ -2,7 +2,7 @@
 ghost use Rattle.std.specs.Prelude.{◌≡◌, ◌≤◌, ◌<◌, ◌+◌, ◌-◌, ◌^◌, ◌++◌, ◌∷◌, [], IfOk, OnErr, OnOk, drop, length, slice_index_or, slice_set, take};
 ghost use Rattle.std.specs.List.{All};
 ghost use Rattle.cursor_acks.specs.Blocks.{end_of, excess, joined, split_at};
-ghost use Rattle.cursor_acks.specs.Places.{AreKept};
+ghost use Rattle.cursor_acks.specs.RangeIndexes.{AreKept};
 
 use crate::block::{HALF, RangeBlock};
 use crate::range::IndexRange;
@@ -80,7 +80,7 @@ impl Blocks {
         self.items.partition_point(|block| block.end() < index)
     }
 
-    /// Another range at a place.
+    /// Another range at a range_index.
     pub(crate) fn set(&mut self, block: usize, offset: usize, range: IndexRange)
         requires block { block < length self.old.list }
         requires offset { offset < length (slice_index_or self.old.list block []) }
@@ -90,7 +90,7 @@ impl Blocks {
         self.items[block].set(offset, range);
     }
 
-    /// One range more at a place of a block that is not full.
+    /// One range more at a range_index of a block that is not full.
     pub(crate) fn insert(&mut self, block: usize, offset: usize, range: IndexRange)
         requires block { block < length self.old.list }
         requires offset { offset ≤ length (slice_index_or self.old.list block []) }
@@ -104,7 +104,7 @@ impl Blocks {
         self.items[block].insert(offset, range);
     }
 
-    /// The range at a place goes, and the block with it where it was the last of it.
+    /// The range at a range_index goes, and the block with it where it was the last of it.
     pub(crate) fn remove(&mut self, block: usize, offset: usize)
         requires block { block < length self.old.list }
         requires offset { offset < length (slice_index_or self.old.list block []) }
@@ -122,7 +122,7 @@ impl Blocks {
         self.items[block].remove(offset);
     }
 
-    /// The ranges before a place go, and the blocks before its block.
+    /// The ranges before a range_index go, and the blocks before its block.
     pub(crate) fn drop_before(&mut self, block: usize, offset: usize)
         requires block { block < length self.old.list }
         requires offset { offset < length (slice_index_or self.old.list block []) }
@@ -163,7 +163,7 @@ impl Blocks {
         }
     }
 
-    /// A block behind the others, of at most half of what it has room for.
+    /// A block after the others, of at most half of what it has room for.
     pub(crate) fn push(&mut self, block: RangeBlock)
         requires some { 0 < length block }
         requires half { length block ≤ 32 }

@@ -11,7 +11,7 @@ use std::alloc::Global;
 use std::marker::Model;
 use thiserror::Error;
 
-/// An index past a topic's end: no entry stands there to be acknowledged, or a seek would begin behind the end.
+/// An index past a topic's end: no entry stands there to be acknowledged, or a seek would begin after the end.
 #[derive(Clone, Copy, Debug, Drop, PartialEq, Eq, Error)]
 #[error("index {index} is past the end of {len} entries")]
 pub struct PastEnd {
@@ -30,7 +30,7 @@ pub struct Cursor {
 impl Model for Cursor {
     ghost use Rattle.cursor_acks.specs.Acks.{AckSet};
     ghost use Rattle.cursor_acks.specs.Ranges.{indexes_of};
-    ghost use Rattle.cursor_acks.specs.Places.{AreKept};
+    ghost use Rattle.cursor_acks.specs.RangeIndexes.{AreKept};
 
     ghost Value = { AckSet };
 

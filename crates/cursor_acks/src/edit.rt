@@ -4,18 +4,18 @@ ghost use Rattle.geo_base.specs.Cursor.{below, with_index, with_indexes};
 ghost use Rattle.cursor_acks.specs.Acks.{are_free, from_to, stand_alone, stands_alone};
 ghost use Rattle.cursor_acks.specs.Blocks.{IsFound, IsRange, flat};
 ghost use Rattle.cursor_acks.specs.Ranges.{covers, indexes_of};
-ghost use Rattle.cursor_acks.specs.Places.{AreKept, Begins, Ends, IsPlace};
+ghost use Rattle.cursor_acks.specs.RangeIndexes.{AreKept, Begins, Ends, IsPlace};
 
 use crate::list::RangeList;
-use crate::place::Place;
 use crate::range::IndexRange;
+use crate::range_index::RangeIndex;
 
 impl RangeList {
-    /// The range that a new index is joined to below: its place, and its first index.
-    fn begin(&self, at: Place, index: u64) -> Option<(Place, u64)>
+    /// The range that a new index is joined to below: its range_index, and its first index.
+    fn begin(&self, at: RangeIndex, index: u64) -> Option<(RangeIndex, u64)>
         requires kept { AreKept self.now.list }
         requires found { IsFound self.now.blocks at }
-        requires place { IsPlace self.now.list index (flat self.now.blocks at) }
+        requires range_index { IsPlace self.now.list index (flat self.now.blocks at) }
         requires new { covers self.now.list index ≡ false }
         ensures some { IfSome result (λ b. IsRange self.now.blocks b.0 × ((flat self.now.blocks b.0 + 1 ≡ flat self.now.blocks at) × Begins self.now.list index (flat self.now.blocks at) (flat self.now.blocks b.0) b.1)) }
         ensures none { IfNone result (Begins self.now.list index (flat self.now.blocks at) (flat self.now.blocks at) index) }
@@ -35,12 +35,12 @@ impl RangeList {
         }
     }
 
-    /// Where the range ends that an index is joined to above, which all ranges before a place end at or before.
-    fn end(&self, at: Place, index: u64) -> Option<u64>
+    /// Where the range ends that an index is joined to above, which all ranges before a range_index end at or before.
+    fn end(&self, at: RangeIndex, index: u64) -> Option<u64>
         requires below { index + 1 < 2 ^ 64 }
         requires kept { AreKept self.now.list }
         requires found { IsFound self.now.blocks at }
-        requires place { IsPlace self.now.list (index + 1) (flat self.now.blocks at) }
+        requires range_index { IsPlace self.now.list (index + 1) (flat self.now.blocks at) }
         ensures some { IfSome result (λ last. IsRange self.now.blocks at × Ends self.now.list index (flat self.now.blocks at) (flat self.now.blocks at + 1) last) }
         ensures none { IfNone result (Ends self.now.list index (flat self.now.blocks at) (flat self.now.blocks at) index) }
     {
@@ -56,15 +56,15 @@ impl RangeList {
         }
     }
 
-    /// All indexes from one to another, none of which is there, at the place of the first. It needs room, and takes some,
+    /// All indexes from one to another, none of which is there, at the range_index of the first. It needs room, and takes some,
     /// only where no neighbour of them is there.
-    fn put(&mut self, at: Place, first: u64, last: u64)
+    fn put(&mut self, at: RangeIndex, first: u64, last: u64)
         requires below { last + 1 < 2 ^ 64 }
         requires order { first ≤ last }
         requires new { are_free (indexes_of self.old.list) first last ≡ true }
         requires kept { AreKept self.old.list }
         requires found { IsFound self.old.blocks at }
-        requires place { IsPlace self.old.list first (flat self.old.blocks at) }
+        requires range_index { IsPlace self.old.list first (flat self.old.blocks at) }
         requires room { stand_alone (indexes_of self.old.list) first last ≡ true → 0 < self.old.spare }
         ensures kept { AreKept self.new.list }
         ensures indexes { indexes_of self.new.list ≡ with_indexes (indexes_of self.old.list) (from_to first last) }
@@ -83,8 +83,8 @@ impl RangeList {
         }
     }
 
-    /// One range takes the place of two neighbours.
-    fn join(&mut self, low: Place, high: Place, range: IndexRange)
+    /// One range takes the range_index of two neighbours.
+    fn join(&mut self, low: RangeIndex, high: RangeIndex, range: IndexRange)
         requires low { IsRange self.old.blocks low }
         requires high { IsRange self.old.blocks high }
         requires order { flat self.old.blocks low + 1 ≡ flat self.old.blocks high }
@@ -142,8 +142,8 @@ impl RangeList {
         }
     }
 
-    /// One range takes the place of that at a place and all before.
-    fn start_at(&mut self, at: Place, range: IndexRange)
+    /// One range takes the range_index of that at a range_index and all before.
+    fn start_at(&mut self, at: RangeIndex, range: IndexRange)
         requires { IsRange self.old.blocks at }
         ensures list { self.new.list ≡ range ∷ drop (flat self.old.blocks at + 1) self.old.list }
         ensures spare { self.old.spare ≤ self.new.spare }
@@ -176,7 +176,7 @@ impl RangeList {
     {
         self.clear();
         if end > 0 {
-            let start = Place {
+            let start = RangeIndex {
                 block: 0,
                 offset: 0,
             };

@@ -13,7 +13,7 @@ pub struct RangeIter<'a> {
     ranges: &'a RangeList,
     /// What is left of a block.
     part: &'a [IndexRange],
-    /// The block behind it.
+    /// The block after it.
     block: usize,
 }
 
@@ -63,7 +63,7 @@ impl<'a> Iterator for RangeIter<'a> {
     }
 }
 
-/// What is left of a block, or the next block where nothing is; and the block behind.
+/// What is left of a block, or the next block where nothing is; and the block after.
 fn part_from<'a>(
     ranges: &'a RangeList,
     part: &'a [IndexRange],

@@ -13,8 +13,8 @@ mod edit;
 mod iter;
 mod laws;
 mod list;
-mod place;
 mod range;
+mod range_index;
 mod search;
 
 pub use cursor::{Cursor, PastEnd};

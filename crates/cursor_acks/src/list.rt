@@ -1,14 +1,14 @@
 //! Lists of ranges.
 ghost use Rattle.std.specs.Prelude.{ℕ, ◌≡◌, ◌≤◌, ◌<◌, ◌+◌, ◌-◌, ◌^◌, ◌++◌, ◌∷◌, [], IfNone, IfOk, IfSome, OnErr, OnOk, drop, length, slice_index_or, take};
 ghost use Rattle.std.specs.List.{All};
-ghost use Rattle.cursor_acks.specs.declared.place.Place.{Place};
+ghost use Rattle.cursor_acks.specs.declared.range_index.RangeIndex.{RangeIndex};
 ghost use Rattle.cursor_acks.specs.Blocks.{IsFound, IsRange, IsSlot, end_of, flat, joined, last_room, split_at};
-ghost use Rattle.cursor_acks.specs.Places.{AreKept};
+ghost use Rattle.cursor_acks.specs.RangeIndexes.{AreKept};
 
 use crate::block::{HALF, MOST, RangeBlock, drop_first};
 use crate::blocks::Blocks;
-use crate::place::Place;
 use crate::range::IndexRange;
+use crate::range_index::RangeIndex;
 use geo_base::Memory;
 use std::alloc::Global;
 use std::marker::Model;
@@ -40,7 +40,7 @@ impl Model for RangeList {
 const MOST_FREE: usize = 4_294_967_295;
 
 impl RangeList {
-    /// How many blocks the ranges stand in, one behind the other.
+    /// How many blocks the ranges stand in, one after the other.
     pub(crate) fn block_count(&self) -> usize
         ensures count { result ≡ length self.now.blocks }
         ensures joined { self.now.list ≡ joined self.now.blocks }
@@ -194,8 +194,8 @@ impl RangeList {
         Ok(())
     }
 
-    /// The range at a place; `None` at the end.
-    pub(crate) fn get(&self, at: Place) -> Option<IndexRange>
+    /// The range at a range_index; `None` at the end.
+    pub(crate) fn get(&self, at: RangeIndex) -> Option<IndexRange>
         requires { IsFound self.now.blocks at }
         ensures some { IfSome result (λ r. IsRange self.now.blocks at × ((flat self.now.blocks at < length self.now.list) × (r ≡ slice_index_or self.now.list (flat self.now.blocks at) r))) }
         ensures none { IfNone result (length self.now.list ≤ flat self.now.blocks at) }
@@ -219,21 +219,21 @@ impl RangeList {
         Some(ranges[0])
     }
 
-    /// The place before a place; `None` at the first.
-    pub(crate) fn before(&self, at: Place) -> Option<Place>
+    /// The range_index before a range_index; `None` at the first.
+    pub(crate) fn before(&self, at: RangeIndex) -> Option<RangeIndex>
         requires { IsSlot self.now.blocks at }
         ensures some { IfSome result (λ p. IsRange self.now.blocks p × (flat self.now.blocks p + 1 ≡ flat self.now.blocks at)) }
         ensures none { IfNone result (flat self.now.blocks at ≡ 0) }
     {
         if at.offset > 0 {
-            return Some(Place {
+            return Some(RangeIndex {
                 block: at.block,
                 offset: at.offset - 1,
             });
         }
         if at.block > 0 {
             let block = at.block - 1;
-            return Some(Place {
+            return Some(RangeIndex {
                 block,
                 offset: self.block(block).len() - 1,
             });
@@ -241,12 +241,12 @@ impl RangeList {
         None
     }
 
-    /// Another range at a place.
-    pub(crate) fn set(&mut self, at: Place, range: IndexRange)
+    /// Another range at a range_index.
+    pub(crate) fn set(&mut self, at: RangeIndex, range: IndexRange)
         requires { IsRange self.old.blocks at }
         ensures list { self.new.list ≡ take (flat self.old.blocks at) self.old.list ++ range ∷ drop (flat self.old.blocks at + 1) self.old.list }
         ensures within { flat self.old.blocks at < length self.old.list }
-        ensures places { (p : Place) → IsRange self.old.blocks p → IsRange self.new.blocks p × (flat self.new.blocks p ≡ flat self.old.blocks p) }
+        ensures places { (p : RangeIndex) → IsRange self.old.blocks p → IsRange self.new.blocks p × (flat self.new.blocks p ≡ flat self.old.blocks p) }
         ensures spare { self.new.spare ≡ self.old.spare }
     {
         if at.block < self.before.len() {
@@ -256,8 +256,8 @@ impl RangeList {
         }
     }
 
-    /// One range more at a place.
-    pub(crate) fn insert(&mut self, at: Place, range: IndexRange)
+    /// One range more at a range_index.
+    pub(crate) fn insert(&mut self, at: RangeIndex, range: IndexRange)
         requires slot { IsSlot self.old.blocks at }
         requires room { 0 < self.old.spare }
         ensures list { self.new.list ≡ take (flat self.old.blocks at) self.old.list ++ range ∷ drop (flat self.old.blocks at) self.old.list }
@@ -267,8 +267,8 @@ impl RangeList {
         self.put_in(at, range);
     }
 
-    /// Splits the block of a place where it is full, and answers where the place is then.
-    fn make_room(&mut self, at: Place) -> Place
+    /// Splits the block of a range_index where it is full, and answers where the range_index is then.
+    fn make_room(&mut self, at: RangeIndex) -> RangeIndex
         requires slot { IsSlot self.old.blocks at }
         requires room { 0 < self.old.spare }
         ensures slot { IsSlot self.new.blocks result }
@@ -284,7 +284,7 @@ impl RangeList {
         if at.offset <= HALF {
             return at;
         }
-        Place {
+        RangeIndex {
             block: at.block + 1,
             offset: at.offset - HALF,
         }
@@ -312,8 +312,8 @@ impl RangeList {
         }
     }
 
-    /// One range more at a place of a block that is not full.
-    fn put_in(&mut self, at: Place, range: IndexRange)
+    /// One range more at a range_index of a block that is not full.
+    fn put_in(&mut self, at: RangeIndex, range: IndexRange)
         requires slot { IsSlot self.old.blocks at }
         requires full { length (slice_index_or self.old.blocks at.block []) < 64 }
         requires room { 0 < self.old.spare }
@@ -330,8 +330,8 @@ impl RangeList {
         }
     }
 
-    /// The range at a place goes.
-    pub(crate) fn remove(&mut self, at: Place)
+    /// The range at a range_index goes.
+    pub(crate) fn remove(&mut self, at: RangeIndex)
         requires { IsRange self.old.blocks at }
         ensures list { self.new.list ≡ take (flat self.old.blocks at) self.old.list ++ drop (flat self.old.blocks at + 1) self.old.list }
         ensures spare { self.old.spare ≤ self.new.spare }
@@ -343,8 +343,8 @@ impl RangeList {
         }
     }
 
-    /// The ranges before a place go.
-    pub(crate) fn drop_before(&mut self, at: Place)
+    /// The ranges before a range_index go.
+    pub(crate) fn drop_before(&mut self, at: RangeIndex)
         requires { IsRange self.old.blocks at }
         ensures list { self.new.list ≡ drop (flat self.old.blocks at) self.old.list }
         ensures spare { self.old.spare ≤ self.new.spare }
@@ -377,7 +377,7 @@ fn last_room(capacity: usize, len: usize) -> usize
     (capacity.min(MOST) - len).min(HALF)
 }
 
-/// How many ranges a last block of `len` has room for, behind so many blocks.
+/// How many ranges a last block of `len` has room for, after so many blocks.
 fn room_for(blocks: usize, len: usize) -> usize
     requires { len ≤ 64 }
     ensures within { len ≤ result }

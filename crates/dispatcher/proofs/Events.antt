@@ -11,7 +11,7 @@ use Rattle.geo_base.specs.declared.entry.Entry.{Entry}
 use Rattle.geo_base.specs.Broker.{Broker, Site, sub_named}
 use Rattle.geo_base.specs.Dispatcher.{consumer_at, is_due, least_due, least_due_from, pick}
 use Rattle.geo_base.specs.Entry.{is_data, key_bytes}
-use Rattle.geo_base.specs.Offering.{message, offer, offer_entry, own_snapshot, passes_by}
+use Rattle.geo_base.specs.Offering.{message, offer, offer_entry, own_snapshot, skips_marker}
 use Rattle.geo_base.specs.Plan.{Plan, idle_plan, plan_of, unless_found}
 use Rattle.geo_base.specs.Subscription.{Subscription}
 use Rattle.dispatcher.specs.Events.{offered, plan_of_choice}
@@ -40,9 +40,9 @@ entry_as_chosen : (h : Site) (b : Broker) (s : Subscription) (i : ℕ) (o : Opti
     → unless_found idle_plan o (λ e. offer_entry h b s i e) ≡ plan_of_choice h b s (choice_at pick (dispatch_of s) b.entries (Some i))
 entry_as_chosen h b s i None at = rw at refl
 entry_as_chosen h b s i (Some e) at = rw at
-    (by_test (plan_of_choice h b s) (is_data e.content) _ _ (choice_data i (pick s.kind s.consumers (key_bytes e.meta.key))) (does.Pass i)
+    (by_test (plan_of_choice h b s) (is_data e.content) _ _ (choice_data i (pick s.kind s.consumers (key_bytes e.meta.key))) (does.Skip i)
     (message_as_chosen h b s i e (pick s.kind s.consumers (key_bytes e.meta.key)) at)
-    (at_entry (slice_get b.entries i) e (λ (e : Entry). passes_by h b s i (own_snapshot h b s e.ident.origin e.content)) at))
+    (at_entry (slice_get b.entries i) e (λ (e : Entry). skips_marker h b s i (own_snapshot h b s e.ident.origin e.content)) at))
 
 index_as_chosen : (h : Site) (b : Broker) (s : Subscription) (o : Option ℕ)
     → unless_found idle_plan o (λ i. unless_found idle_plan (slice_get b.entries i) (λ e. offer_entry h b s i e)) ≡ plan_of_choice h b s (choice_at pick (dispatch_of s) b.entries o)
@@ -62,5 +62,5 @@ idle_without h b n none = rw none refl
 
 pub after_as_chosen : (s : Subscription) (c : Choice) → dispatch_of (offered c s) ≡ after_choice (dispatch_of s) c
 after_as_chosen s does.Idle = refl
-after_as_chosen s (does.Pass i) = refl
+after_as_chosen s (does.Skip i) = refl
 after_as_chosen s (does.Give i at) = refl

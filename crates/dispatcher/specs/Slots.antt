@@ -1,6 +1,6 @@
 -- The slots of what is out: those that are not empty are the table.
 use Rattle.std.specs.Prelude.{ℕ, ◌+◌, ◌==◌, Bool, true, false, not, List, [], ◌∷◌, Option, Some, None, ◌≡◌}
-use Rattle.geo_base.specs.declared.consumer.Outstanding.{Outstanding}
+use Rattle.geo_base.specs.declared.consumer.Unacked.{Unacked}
 use Rattle.geo_base.specs.Ascending.{IsAscending}
 use Rattle.geo_base.specs.Cursor.{has}
 use Rattle.dispatcher.specs.declared.slot.Slot.{Slot}
@@ -8,12 +8,12 @@ use Rattle.dispatcher.specs.declared.slot.Slot.{Slot}
 abbrev pub slot_index : Slot → ℕ
 slot_index s = s.index
 
--- what a slot adds to what is out behind it
-abbrev pub out_before : Option ℕ → ℕ → List Outstanding → List Outstanding
+-- what a slot adds to what is out after it
+abbrev pub out_before : Option ℕ → ℕ → List Unacked → List Unacked
 out_before None i os = os
 out_before (Some c) i os = record { index = i; client = c } ∷ os
 
-abbrev pub outs_of : List Slot → List Outstanding
+abbrev pub outs_of : List Slot → List Unacked
 outs_of [] = []
 outs_of (s ∷ ss) = out_before s.client s.index (outs_of ss)
 

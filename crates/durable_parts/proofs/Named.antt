@@ -1,6 +1,6 @@
 -- The subscription of a name among those of a topic, no two of which have one name.
 use Rattle.std.proofs.Common.{◌≡◌, ◌∙◌, ℕ, zero, suc, ◌+◌, ◌<◌, ◌≤◌, Bool, true, false, List, [], ◌∷◌, ◌++◌, length, get_or, set, map, position, refl, sym, ap, arith, inl, inr}
-use Rattle.std.specs.Prelude.{◌≢◌, ◌⊎◌, Option, Some, None, not, if◌then◌else◌, filter}
+use Rattle.std.specs.Prelude.{◌≢◌, Option, Some, None, not, if◌then◌else◌, filter}
 use Rattle.std.specs.List.{position_or_len, prefix_len}
 use Rattle.std.specs.Str.{bytes_eq}
 use Rattle.std.proofs.lemmas.Bool.{cases_lt}
@@ -18,10 +18,7 @@ use Rattle.durable_parts.specs.declared.durable.SubPart.{SubPart}
 use Rattle.durable_parts.specs.declared.durable.SubPart.TheVariants as part
 use Rattle.durable_parts.specs.Changed.{with_part}
 use Rattle.durable_parts.specs.Parts.{AreNamedApart, sub_of, subs_of}
-
-told : (b : Bool) → (b ≡ true) ⊎ (b ≡ false)
-told true = inl refl
-told false = inr refl
+use Rattle.geo_base.proofs.Bools.{true_or_false}
 
 -- a subscription has a name, as a test
 abbrev pub is_named : List ℕ → Subscription → Bool
@@ -29,7 +26,7 @@ is_named n s = bytes_eq s.name n
 
 -- a name is that of one subscription alone
 apart_from : (a b n : List ℕ) → bytes_eq a n ≡ true → bytes_eq a b ≡ false → bytes_eq b n ≡ false
-apart_from a b n h other = elim (told (bytes_eq b n)) [
+apart_from a b n h other = elim (true_or_false (bytes_eq b n)) [
   | inl also ↦
       let same : a ≡ b = (bytes_eq-Decides a n).0 h ∙ sym ((bytes_eq-Decides b n).0 also) in
       let there : bytes_eq a b ≡ true = (bytes_eq-Decides a b).1 same in

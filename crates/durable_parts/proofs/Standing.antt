@@ -4,7 +4,7 @@ use Rattle.std.specs.Prelude.{if◌then◌else◌, slice_set, Result, Ok, Err, O
 use Rattle.std.specs.List.{All}
 use Rattle.std.specs.Str.{bytes_eq}
 use Rattle.geo_base.specs.declared.write.Write as machine
-use Rattle.geo_base.specs.Broker.{Broker, sender_at, written}
+use Rattle.geo_base.specs.Broker.{Broker, replicator_at, written}
 use Rattle.geo_base.specs.Cursor.{below, with_indexes}
 use Rattle.geo_base.specs.Subscription.{Subscription, sought, with_acks}
 use Rattle.durable_parts.specs.declared.write.Write.{Write}
@@ -43,8 +43,8 @@ stands per b (whole.Acks n c) m h =
 stands per b (whole.Seek n c seeks) m h =
     ap (λ (ss : List Subscription). record b { subs = ss }) (changed_alike (λ s. record s { cursor = c.indexes; seeks = seeks }) (sought h.0) n b.subs (λ k d lt is. seek_alike h.0 seeks c.indexes (get_or b.subs k d) (h.2 k d lt is)))
     ∙ ap (λ (x : machine.Write). written per b x) (sym h.1)
-stands per b (whole.SenderAcks y c) m h =
-    ap (λ (x : List ℕ). record b { senders = slice_set b.senders y (record (sender_at b y) { cursor = x }) }) h.2
+stands per b (whole.ReplicatorAcks y c) m h =
+    ap (λ (x : List ℕ). record b { replicators = slice_set b.replicators y (record (replicator_at b y) { cursor = x }) }) h.2
     ∙ ap (λ (x : machine.Write). written per b x) (sym h.1)
 
 -- so does one that was done

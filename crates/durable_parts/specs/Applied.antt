@@ -4,7 +4,7 @@ use Rattle.std.specs.List.{All}
 use Rattle.std.specs.Str.{bytes_eq}
 use Rattle.geo_base.specs.declared.write.Write as machine
 use Rattle.geo_base.specs.declared.write.Write.TheVariants as write
-use Rattle.geo_base.specs.Broker.{Broker, at_sender, at_sub, sender_at, written}
+use Rattle.geo_base.specs.Broker.{Broker, at_replicator, at_sub, replicator_at, written}
 use Rattle.geo_base.specs.Cursor.{below, with_index, with_indexes}
 use Rattle.geo_base.specs.Subscription.{Subscription}
 use Rattle.durable_parts.specs.declared.write.Write.{Write}
@@ -18,7 +18,7 @@ applied per b (whole.Change n kind replicated) = written per b (write.Alter n ki
 applied per b (whole.Delete n) = written per b (write.Delete n)
 applied per b (whole.Acks n c) = at_sub b n (λ s. record s { cursor = c.indexes })
 applied per b (whole.Seek n c seeks) = at_sub b n (λ s. record s { cursor = c.indexes; seeks = seeks })
-applied per b (whole.SenderAcks y c) = at_sender b y (λ s. record s { cursor = c.indexes })
+applied per b (whole.ReplicatorAcks y c) = at_replicator b y (λ s. record s { cursor = c.indexes })
 applied per b (whole.Session y session) = written per b (write.SessionNumber y session)
 applied per b whole.Ledger = written per b write.Ledger
 
@@ -34,6 +34,6 @@ StandsFor b (whole.Change n kind replicated) m = m ≡ write.Alter n kind replic
 StandsFor b (whole.Delete n) m = m ≡ write.Delete n
 StandsFor b (whole.Acks n c) m = (is : List ℕ) × (m ≡ write.Acks n is) × OfSub b n (λ s. c.indexes ≡ with_indexes s.cursor is)
 StandsFor b (whole.Seek n c seeks) m = (i : ℕ) × (m ≡ write.Seek n i) × OfSub b n (λ s. (c.indexes ≡ below i) × (seeks ≡ s.seeks + 1))
-StandsFor b (whole.SenderAcks y c) m = (i : ℕ) × (m ≡ write.SenderAck y i) × (c.indexes ≡ with_index (sender_at b y).cursor i)
+StandsFor b (whole.ReplicatorAcks y c) m = (i : ℕ) × (m ≡ write.ReplicatorAck y i) × (c.indexes ≡ with_index (replicator_at b y).cursor i)
 StandsFor b (whole.Session y session) m = m ≡ write.SessionNumber y session
 StandsFor b whole.Ledger m = m ≡ write.Ledger

@@ -1,7 +1,7 @@
 -- What survives a stop of a broker, as a broker of the machine with nothing in memory.
 use Rattle.std.specs.Prelude.{[], map, None}
 use Rattle.geo_base.specs.Broker.{Broker}
-use Rattle.geo_base.specs.Sender.{sender_restarted}
+use Rattle.geo_base.specs.Replicator.{replicator_restarted}
 use Rattle.geo_base.specs.Subscription.{cleared}
 use Rattle.durable_parts.specs.declared.durable.Durable.{Durable}
 
@@ -10,7 +10,7 @@ abbrev pub durable_part : Broker → Broker
 durable_part b = record {
   entries = b.entries;
   ledgers = b.ledgers;
-  senders = map sender_restarted b.senders;
+  replicators = map replicator_restarted b.replicators;
   receivers = [];
   subs = map cleared b.subs;
   sessions = [];
@@ -22,7 +22,7 @@ abbrev pub broker_of : Durable → Broker
 broker_of d = record {
   entries = d.store.entries;
   ledgers = d.store.ledgers;
-  senders = d.senders;
+  replicators = d.replicators;
   receivers = [];
   subs = d.subs;
   sessions = [];

@@ -2,10 +2,10 @@
 use Rattle.std.specs.Prelude.{◌≡◌, false, List, [], map}
 use Rattle.std.specs.List.{AllPairs}
 use Rattle.std.specs.Str.{bytes_eq}
-use Rattle.geo_base.specs.declared.sender.SenderState.TheVariants as sender_state
-use Rattle.geo_base.specs.Sender.{Sender}
+use Rattle.geo_base.specs.declared.replicator.ReplicatorState.TheVariants as replicator_state
+use Rattle.geo_base.specs.Replicator.{Replicator}
 use Rattle.geo_base.specs.Subscription.{Subscription}
-use Rattle.durable_parts.specs.declared.durable.DurableSender.{DurableSender}
+use Rattle.durable_parts.specs.declared.durable.DurableReplicator.{DurableReplicator}
 use Rattle.durable_parts.specs.declared.durable.DurableSub.{DurableSub}
 
 -- a subscription with nothing in memory
@@ -20,8 +20,8 @@ abbrev pub AreNamedApart : List Subscription → Type 0
 AreNamedApart ss = AllPairs (λ (s t : Subscription). bytes_eq s.name t.name ≡ false) ss
 
 -- a replicator with nothing in memory
-abbrev pub sender_of : DurableSender → Sender
-sender_of d = record { cursor = d.cursor.indexes; session = d.session; state = sender_state.Closed; read_index = 0; next = 0; pending = [] }
+abbrev pub replicator_of : DurableReplicator → Replicator
+replicator_of d = record { cursor = d.cursor.indexes; session = d.session; state = replicator_state.Closed; read_index = 0; next = 0; pending = [] }
 
-abbrev pub senders_of : List DurableSender → List Sender
-senders_of ds = map sender_of ds
+abbrev pub replicators_of : List DurableReplicator → List Replicator
+replicators_of ds = map replicator_of ds

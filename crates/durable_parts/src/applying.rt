@@ -53,12 +53,12 @@ pub fn apply_write(alloc: Global, durable: &mut Durable, write: Write) -> Result
             alter(durable, sub, SubPart::Seek { cursor, seeks });
             Ok(())
         }
-        Write::SenderAcks { remote, cursor } => {
-            durable.senders.set_cursor(remote, cursor);
+        Write::ReplicatorAcks { remote, cursor } => {
+            durable.replicators.set_cursor(remote, cursor);
             Ok(())
         }
         Write::Session { remote, session } => {
-            durable.senders.set_session(remote, session);
+            durable.replicators.set_session(remote, session);
             Ok(())
         }
         Write::Ledger => open_ledger(durable),

@@ -1,13 +1,13 @@
 //! What survives a stop of a broker.
 ghost use Rattle.std.specs.Prelude.{◌≡◌, ◌<◌, [], IfOk};
 ghost use Rattle.geo_base.specs.Broker.{new_broker};
-ghost use Rattle.geo_base.specs.Sender.{new_sender};
+ghost use Rattle.geo_base.specs.Replicator.{new_replicator};
 ghost use Rattle.geo_base.specs.Subscription.{new_subscription};
 ghost use Rattle.durable_parts.specs.Changed.{with_part};
 ghost use Rattle.durable_parts.specs.Durable.{broker_of, durable_part};
-ghost use Rattle.durable_parts.specs.Parts.{sender_of, sub_of};
+ghost use Rattle.durable_parts.specs.Parts.{replicator_of, sub_of};
 
-use crate::senders::DurableSenders;
+use crate::replicators::DurableReplicators;
 use crate::subs::DurableSubs;
 use cursor_acks::Cursor;
 use geo_base::{Memory, NameFault, SubKind, SubName};
@@ -102,17 +102,17 @@ pub(crate) enum SubPart {
 
 /// What is durable of the replicator to a cluster: the number of its session, and what that cluster has acknowledged.
 #[derive(Drop)]
-pub struct DurableSender {
+pub struct DurableReplicator {
     pub session: u64,
     pub cursor: Cursor,
 }
 
-impl DurableSender {
+impl DurableReplicator {
     /// A new replicator, which has sent nothing; takes no memory.
-    pub fn new(alloc: Global) -> DurableSender
-        ensures { sender_of result ≡ new_sender }
+    pub fn new(alloc: Global) -> DurableReplicator
+        ensures { replicator_of result ≡ new_replicator }
     {
-        DurableSender {
+        DurableReplicator {
             session: 0,
             cursor: Cursor::none(alloc),
         }
@@ -126,7 +126,7 @@ pub struct Durable {
     pub own: u32,
     pub store: TopicLedger,
     pub subs: DurableSubs,
-    pub senders: DurableSenders,
+    pub replicators: DurableReplicators,
 }
 
 impl Durable {
@@ -138,16 +138,16 @@ impl Durable {
         ensures per_ledger { IfOk result (λ d. d.store.per_ledger ≡ per_ledger) }
         ensures broker { IfOk result (λ d. broker_of d ≡ durable_part (new_broker clusters 0)) }
     {
-        let senders = DurableSenders::new(alloc, clusters)?;
+        let replicators = DurableReplicators::new(alloc, clusters)?;
         match TopicLedger::new(alloc, per_ledger) {
             Ok(store) => Ok(Durable {
                 own,
                 store,
                 subs: DurableSubs::new(alloc),
-                senders,
+                replicators,
             }),
             Err(fault) => {
-                drop(senders);
+                drop(replicators);
                 Err(fault)
             }
         }

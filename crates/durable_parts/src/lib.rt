@@ -13,14 +13,14 @@ mod applying;
 mod durable;
 mod marker;
 mod recovery;
-mod senders;
+mod replicators;
 mod subs;
 mod write;
 
 pub use applying::apply_write;
-pub use durable::{Durable, DurableSender, DurableSub};
+pub use durable::{Durable, DurableReplicator, DurableSub};
 pub use marker::{MARKER_PRODUCER, is_own_marker, marker_after};
 pub use recovery::{Recovered, recover};
-pub use senders::DurableSenders;
+pub use replicators::DurableReplicators;
 pub use subs::DurableSubs;
 pub use write::Write;

@@ -35,7 +35,7 @@ pub enum Write {
         seeks: u64,
     },
     /// The cursor of the replicator to a cluster.
-    SenderAcks {
+    ReplicatorAcks {
         remote: u32,
         cursor: Cursor,
     },

@@ -1,5 +1,5 @@
 -- Where settling reads an update, its remaining events and rounds follow: the round in which it does is one that settling comes to, since
--- behind a round that did no event nothing is left to read.
+-- after a round that did no event nothing is left to read.
 use Rattle.std.proofs.Common.{◌≡◌, ℕ, zero, suc, ◌+◌, ◌<◌, Bool, true, false, List, [], ◌∷◌, ◌++◌, refl, sym, ap, subst, ◌∙◌, ◌==◌, arith, inl, inr, ◌⊎◌}
 use Rattle.std.specs.Prelude.{Option, Some, None, ◌||◌, is_some, slice_get, take}
 use Rattle.std.proofs.lemmas.Bool.{eqb-true}
@@ -124,9 +124,9 @@ round_follows s t y n w i e found =
     after_some [] ys h = h
     after_some (x ∷ xs) ys h = after_some xs ys h.1
 
--- ---- the rounds behind it
+-- ---- the rounds after it
 
--- rounds end behind q, a round that led there from w, or go on with m more
+-- rounds end after q, a round that led there from w, or go on with m more
 abbrev go_on : Setup → World → ℕ → Ran → Ran
 go_on s w m q = elim (is_some q.ended || (q.world.events == w.events)) as (λ b. Ran) [ true ↦ q | false ↦ rounds_of m no_limits s (counting_round q) ]
 

@@ -11,12 +11,12 @@ use Rattle.world_laws.proofs.Types.content
 use Rattle.world_laws.proofs.Types.marker
 use Rattle.world_laws.proofs.Types.progress
 use Rattle.geo_base.specs.Broker.{Broker, Site, cluster_name}
-use Rattle.geo_base.specs.Builder.{named}
+use Rattle.geo_base.specs.SnapshotBuilder.{named}
 use Rattle.geo_base.specs.Cache.{cut_of}
 use Rattle.geo_base.specs.Entry.{is_data}
 use Rattle.geo_base.specs.Name.{is_name}
 use Rattle.geo_base.specs.Plan.{all_changed, all_written}
-use Rattle.geo_base.specs.Position.{nowhere}
+use Rattle.geo_base.specs.Position.{no_position}
 use Rattle.geo_base.specs.Subscription.{Subscription}
 use Rattle.world_laws.proofs.TopicOrder.Added.{Added, Adds, appended}
 use Rattle.world_laws.proofs.Telling.Announcing.{Announced, Announcing, announced}
@@ -127,7 +127,7 @@ id_of c = []
 
 abbrev local_of : Content → Position
 local_of (content.Marked (marker.Snapshot id local remote)) = local
-local_of c = nowhere
+local_of c = no_position
 
 abbrev remote_of : Content → List ClusterPosition
 remote_of (content.Marked (marker.Snapshot id local remote)) = remote

@@ -6,13 +6,13 @@ use Rattle.std.proofs.lemmas.Bool.{eq-eqb, eqb-true, false≢true, ltb-true}
 use Rattle.std.proofs.lemmas.Bool.Decides.{nat_tests}
 use Rattle.std.proofs.lemmas.Nat.{pow_below}
 use Rattle.std.proofs.lemmas.Option.{none-some, same_Some}
-use Rattle.world_laws.proofs.Types.{ClusterPosition, Entry, Place, Position, Targets}
+use Rattle.world_laws.proofs.Types.{ClusterPosition, Entry, ClusterRef, Position, Targets}
 use Rattle.world_laws.proofs.Types.content
 use Rattle.world_laws.proofs.Types.marker
-use Rattle.world_laws.proofs.Types.place
+use Rattle.world_laws.proofs.Types.cluster_ref
 use Rattle.world_laws.proofs.Types.targets
 use Rattle.geo_base.specs.Broker.{Broker}
-use Rattle.geo_base.specs.Builder.{named}
+use Rattle.geo_base.specs.SnapshotBuilder.{named}
 use Rattle.geo_base.specs.Cache.{cut_of}
 use Rattle.geo_base.specs.Cuts.{CoversCluster, IsCut}
 use Rattle.geo_base.specs.Entry.{goes_to, is_data, is_outbound, meant_for}
@@ -47,8 +47,8 @@ absent s w t x i e k past at =
     let le : length s.topics ≤ t = grind (arith, nat_tests, past) in
     none-some e (subst (λ (b : Broker). slice_get b.entries i ≡ Some e) (past_node s w.brokers t x k.size le) at)
 
-pub asked_at : (a r : ℕ) (b : Broker) (id : List ℕ) → MarkerAt b r a (marker.Request id (place.Known a)) → RequestAt a b.entries r id
-asked_at a r b id m = record { entry = m.entry; at = m.stands; of = eq-eqb m.entry.ident.origin a m.origin; asks = (place.Known a, m.is) }
+pub asked_at : (a r : ℕ) (b : Broker) (id : List ℕ) → MarkerAt b r a (marker.Request id (cluster_ref.Known a)) → RequestAt a b.entries r id
+asked_at a r b id m = record { entry = m.entry; at = m.stands; of = eq-eqb m.entry.ident.origin a m.origin; asks = (cluster_ref.Known a, m.is) }
 
 abbrev pub bits : Targets → ℕ
 bits (targets.Only n) = n
@@ -79,7 +79,7 @@ differ s w k traced t a i j id small q r =
 
 -- of a topic that is there
 answered_behind : (s : Setup) (w : World) → Knows s w → AllTraced s w → (t a y r l j : ℕ) (id : List ℕ) (answer : ClusterPosition) → t < length s.topics → ArePair s a y
-    → MarkerAt (topic_at s w t a) r a (marker.Request id (place.Known a))
+    → MarkerAt (topic_at s w t a) r a (marker.Request id (cluster_ref.Known a))
     → (m : MarkerAt (topic_at s w t y) l y (marker.Response id answer)) → m.entry.to ≡ targets.Only (2 ^ a)
     → index_of (topic_at s w t y).ledgers answer.position ≡ Some j → IsAhead s w t a y r j id
 answered_behind s w k traced t a y r l j id answer lt pair request m to at = record { request = request; ahead = ahead }
@@ -136,7 +136,7 @@ at_home s w t z i a e k at of small small_z =
 
 -- the answer that names a place of the cut stands where it was given, and went to a alone
 told_behind : (s : Setup) (w : World) → Knows s w → AllTraced s w → (t a y i j : ℕ) (id : List ℕ) (p : Position) → t < length s.topics → ArePair s a y
-    → MarkerAt (topic_at s w t a) i a (marker.Request id (place.Known a)) → AnsweredWith y (topic_at s w t a).entries id p
+    → MarkerAt (topic_at s w t a) i a (marker.Request id (cluster_ref.Known a)) → AnsweredWith y (topic_at s w t a).entries id p
     → index_of (topic_at s w t y).ledgers p ≡ Some j → IsAhead s w t a y i j id
 told_behind s w k traced t a y i j id p lt pair request answered at =
     answered_behind s w k traced t a y i there.place j id answered.answer lt pair request
@@ -194,15 +194,15 @@ update_behind s w k traced cuts t z i a y j n told lt small pair m names = recor
     asked : AskedFor a (topic_at s w t a).entries c.index c.id (cut_of a (length s.clusters) c.local c.remote)
     asked = (traced t a (lt, pair.0)).snapshots c.index c.entry c.id c.local c.remote c.at c.of c.is
 
-    request : MarkerAt (topic_at s w t a) asked.request a (marker.Request c.id (place.Known a))
+    request : MarkerAt (topic_at s w t a) asked.request a (marker.Request c.id (cluster_ref.Known a))
     request =
         let e = asked.asks.entry in let source = asked.asks.asks.0 in
-        let own : source ≡ place.Known a = (k.answers t a (lt, pair.0)).sources asked.request e c.id source asked.asks.at asked.asks.of asked.asks.asks.1 in
+        let own : source ≡ cluster_ref.Known a = (k.answers t a (lt, pair.0)).sources asked.request e c.id source asked.asks.at asked.asks.of asked.asks.asks.1 in
         record {
           entry = e;
           stands = asked.asks.at;
           origin = eqb-true e.ident.origin a asked.asks.of;
-          is = asked.asks.asks.1 ∙ ap (λ (q : Place). content.Marked (marker.Request c.id q)) own;
+          is = asked.asks.asks.1 ∙ ap (λ (q : ClusterRef). content.Marked (marker.Request c.id q)) own;
         }
 
     cut : IsCut s w t a (cut_of a (length s.clusters) c.local c.remote)
@@ -223,13 +223,13 @@ updates_behind s w k traced cuts t z i a y j n told small pair m names =
     (λ lt. update_behind s w k traced cuts t z i a y j n told (ltb-true _ _ lt) small pair m names)
     (λ past. absurd (absent s w t z i m.entry k past m.stands))
 
--- ---- what is given behind it
+-- ---- what is given after it
 
 own_meant : (a : ℕ) (f : Entry) → f.ident.origin ≡ a → meant_for a f ≡ true
 own_meant a f of = subst (λ (b : Bool). (b || goes_to a f.to) ≡ true) (sym (eq-eqb f.ident.origin a of)) refl
 
 -- a message is no request
-no_message : (b : Broker) (r a : ℕ) (id : List ℕ) (f : Entry) → MarkerAt b r a (marker.Request id (place.Known a)) → IsEntry b r f → is_data f.content ≡ true → ⊥
+no_message : (b : Broker) (r a : ℕ) (id : List ℕ) (f : Entry) → MarkerAt b r a (marker.Request id (cluster_ref.Known a)) → IsEntry b r f → is_data f.content ≡ true → ⊥
 no_message b r a id f m at message =
     let same : f ≡ m.entry = same_Some _ _ (sym at ∙ m.stands) in
     false≢true (sym (ap is_data (ap (λ (e : Entry). e.content) same ∙ m.is)) ∙ message)

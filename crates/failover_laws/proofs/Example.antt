@@ -1,5 +1,5 @@
--- An example, computed, of a run where the premises of `law_never_again` hold: a consumer acknowledges a message at a behind a snapshot,
--- its update comes to b, and b's sender to a acts on it; then b starts again, so that reading begins anew, and the consumer moves there.
+-- An example, computed, of a run where the premises of `law_never_again` hold: a consumer acknowledges a message at a after a snapshot,
+-- its update comes to b, and b's replicator to a acts on it; then b starts again, so that reading begins anew, and the consumer moves there.
 use Rattle.std.specs.Prelude.{◌≡◌, [], ◌∷◌, ◌++◌, List, true, false, None, codes, map, refl}
 use Rattle.std.specs.Fmt.{digits}
 use Rattle.std.proofs.Common.{arith}
@@ -7,7 +7,7 @@ use Rattle.world_laws.proofs.Types.{ClusterPosition, Consumer, Step}
 use Rattle.world_laws.proofs.Types.event
 use Rattle.world_laws.proofs.Types.fate
 use Rattle.world_laws.proofs.Types.line
-use Rattle.world_laws.proofs.Types.place
+use Rattle.world_laws.proofs.Types.cluster_ref
 use Rattle.world_laws.proofs.Types.step
 use Rattle.world_laws.proofs.Types.sub_kind
 use Rattle.world_laws.proofs.Types.targets
@@ -56,7 +56,7 @@ setup = record {
       [];
 }
 
--- until b's sender to a is to read the update
+-- until b's replicator to a is to read the update
 before : List Step
 before =
     step.Plain (event.Reconnect 0) ∷
@@ -105,11 +105,11 @@ before =
     step.Plain (event.Receipt 0 0 1 fate.Good) ∷
     []
 
--- the update names the second entry of b's topic: the request, behind the message
+-- the update names the second entry of b's topic: the request, after the message
 told : List ClusterPosition
-told = record { cluster = place.Known 1; position = record { ledger = 0; entry = 1 } } ∷ []
+told = record { cluster = cluster_ref.Known 1; position = record { ledger = 0; entry = 1 } } ∷ []
 
--- the sender reads it next
+-- the replicator reads it next
 reads : ReadsIndex setup (run setup before) 0 1 0 (codes "s1") told 1
 unfolding setup before told digits go get reconnect serve reset take_packet receipt read snap offer planned broker_does client_does happens steps
 reads = record {
@@ -145,7 +145,7 @@ unfolding setup before between digits go get reconnect serve reset take_packet r
 leave = (refl, (refl, (refl, (refl, (refl, tt)))))
 
 -- then c's consumer there has permits, and the message that it acknowledged at a is not given to it: an offer that did not ask the cursor
--- would give it, since reading begins anew behind a start
+-- would give it, since reading begins anew after a start
 after : World
 after = run setup (before ++ step.Plain (event.Read 0 1 0) ∷ between)
 

@@ -1,9 +1,9 @@
 -- What a client gets on a connection that it opened when its subscription had passed over an index: each message that was sent on it for
--- that subscription stands behind the index, or is not meant for the update's cluster.
+-- that subscription stands after the index, or is not meant for the update's cluster.
 use Rattle.std.proofs.Common.{◌≡◌, ℕ, ◌<◌, ◌≤◌, false, List, sym, ap, subst, ◌∙◌, arith, inl, inr, ◌⊎◌}
 use Rattle.std.specs.Prelude.{Option, Some, None, slice_set}
 use Rattle.std.proofs.lemmas.Option.{same_Some}
-use Rattle.world_laws.proofs.Types.{Entry, Event, Frame, Packet, Peer, Place}
+use Rattle.world_laws.proofs.Types.{Entry, Event, Frame, Packet, Peer, ClusterRef}
 use Rattle.world_laws.proofs.Types.event
 use Rattle.world_laws.proofs.Types.frame
 use Rattle.world_laws.proofs.Types.peer
@@ -28,7 +28,7 @@ use Rattle.world_laws.proofs.Walks.Shapes.{Shape}
 use Rattle.world_laws.proofs.Dispatching.SubFrames.{AllSubs, found_is}
 use Rattle.world_laws.proofs.Walks.Walk.{on_if}
 use Rattle.world_laws.specs.SubLines.{IsSubLine, named_by}
-use Rattle.failover_laws.specs.PassedOver.{HasPassed}
+use Rattle.failover_laws.specs.UpdatedTo.{HasUpdatedTo}
 use Rattle.failover_laws.specs.Since.{AfterEvent, AfterHalt, AfterRound, AfterStop, Idling, Resuming, Since, Starting, StaysAcknowledged}
 use Rattle.world_laws.proofs.Clients.CalmWalk.{Acts, shape_acts}
 use Rattle.world_laws.proofs.Clients.ClientLinks.{OutHere, Packets, SentDown, ToHere, acts_down, does_down, halts_down, none_down, stops_down}
@@ -37,8 +37,8 @@ use Rattle.failover_laws.proofs.Given.{open_apart}
 use Rattle.failover_laws.proofs.Lasting.{entry_stays, found_name, since_keeps, still_passed}
 use Rattle.world_laws.proofs.Clients.Meeting.{MeetsAll, event_meets, halt_meets, resumed_meets, stop_meets}
 
--- the entry e, whose source a frame tells so, stands at y behind index j or is not meant for a
-pub record IsLate (b : Broker) (y a j : ℕ) (source : Option Place) (e : Entry) : Type 0 where
+-- the entry e, whose source a frame tells so, stands at y after index j or is not meant for a
+pub record IsLate (b : Broker) (y a j : ℕ) (source : Option ClusterRef) (e : Entry) : Type 0 where
   pub index : ℕ
   pub stands : IsEntry b index e
   pub from : source ≡ source_of y e
@@ -54,7 +54,7 @@ abbrev pub IsLateAbove : Declared → List ℕ → Broker → ℕ → ℕ → �
 IsLateAbove d n b y a j m session f = m < session → IsLateFor d n b y a j f
 
 -- topics grow
-late_grows : (n : List ℕ) (b b' : Broker) (y a j : ℕ) (source : Option Place) (e : Entry) → StaysAcknowledged n b b' → IsLate b y a j source e → IsLate b' y a j source e
+late_grows : (n : List ℕ) (b b' : Broker) (y a j : ℕ) (source : Option ClusterRef) (e : Entry) → StaysAcknowledged n b b' → IsLate b y a j source e → IsLate b' y a j source e
 late_grows n b b' y a j source e h l = record { index = l.index; stands = entry_stays n b b' l.index e h l.stands; from = l.from; late = l.late }
 
 frame_grows : (d : Declared) (n : List ℕ) (b b' : Broker) (y a j : ℕ) (f : Frame) → StaysAcknowledged n b b' → IsLateFor d n b y a j f → IsLateFor d n b' y a j f
@@ -87,7 +87,7 @@ one_name d i l n h k =
 
 -- the topic at y, where n has passed over j; b' is what the event leaves of it
 record IsPlace (s : Setup) (c y : ℕ) (n : List ℕ) (a j : ℕ) (w : World) (b' : Broker) : Type 0 where
-  passed : HasPassed (topic_at s w (declared_at s c).topic y) n a j
+  passed : HasUpdatedTo (topic_at s w (declared_at s c).topic y) n a j
   stays : StaysAcknowledged n (topic_at s w (declared_at s c).topic y) b'
 
 given_late : (s : Setup) (c y : ℕ) (n : List ℕ) (a j : ℕ) (w : World) (b' : Broker) → IsPlace s c y n a j w b' → (t x i : ℕ) (m : List ℕ) (v : Subscription) (e : Entry)
@@ -132,7 +132,7 @@ acts_late s c y m k n a j w b' place t x p own (Acts.Giving l v i at e named lea
 
 pub record GetsLate (s : Setup) (c y m : ℕ) (n : List ℕ) (a j : ℕ) (w : World) : Type 0 where
   pub meets : MeetsAll s c w
-  pub passed : HasPassed (topic_at s w (declared_at s c).topic y) n a j
+  pub passed : HasUpdatedTo (topic_at s w (declared_at s c).topic y) n a j
   pub frames : Packets (IsLateAbove (declared_at s c) n (topic_at s w (declared_at s c).topic y) y a j m) (SentDown w.links c y)
 
 -- frames of an event of a broker
@@ -228,7 +228,7 @@ gets_late s c y m n a j v _ h (Resuming w r) =
     record { meets = resumed_meets s c w g.meets; passed = g.passed; frames = none_down s c y (IsLateAbove (declared_at s c) n (topic_at s w (declared_at s c).topic y) y a j m) }
 
 -- where n has passed over j, whatever was sent to c there is of no later connection
-pub begins_late : (s : Setup) (c y : ℕ) (n : List ℕ) (a j : ℕ) (v : World) → MeetsAll s c v → HasPassed (topic_at s v (declared_at s c).topic y) n a j
+pub begins_late : (s : Setup) (c y : ℕ) (n : List ℕ) (a j : ℕ) (v : World) → MeetsAll s c v → HasUpdatedTo (topic_at s v (declared_at s c).topic y) n a j
     → GetsLate s c y (client_at s v c).connection n a j v
 begins_late s c y n a j v meets passed = record {
   meets = meets;

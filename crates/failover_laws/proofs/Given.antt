@@ -24,9 +24,10 @@ use Rattle.world_laws.proofs.Dispatching.Remembers.{is_false, least_due_is, or_f
 use Rattle.world_laws.proofs.Walks.Shapes.{Answered, Fated, Offers, Reads, Seeks, Served, Shape, Snaps, Taken}
 use Rattle.world_laws.proofs.Walks.Walk.{left, right}
 use Rattle.failover_laws.specs.Again.{NotAgain, gives, is_given}
-use Rattle.failover_laws.specs.PassedOver.{HasPassed}
+use Rattle.failover_laws.specs.UpdatedTo.{HasUpdatedTo}
 use Rattle.failover_laws.specs.Since.{is_at}
 use Rattle.failover_laws.proofs.Lasting.{found_name}
+pub use Rattle.geo_base.proofs.Bools.{unless_true as passes_meant}
 
 -- subscription n is here, and its cursor lacks index i
 abbrev pub IsOpen : Broker → List ℕ → ℕ → Type 0
@@ -87,7 +88,7 @@ reads_gives m k h b y q (Reads.Counts i e id answer u u' next is heard) = refl
 reads_gives m k h b y q (Reads.AsksAgain i e id answer u u' next is heard) = refl
 reads_gives m k h b y q (Reads.Completes i e id answer u u' next is heard) = refl
 reads_gives m k h b y q (Reads.CreatesAt i j e n remote next is named) = refl
-reads_gives m k h b y q (Reads.PassesOver i j e n remote v ws next is named after) = refl
+reads_gives m k h b y q (Reads.ActsOnUpdate i j e n remote v ws next is named after) = refl
 
 pub snaps_gives : (m : List ℕ) (k : ℕ) (h : Site) (b : Broker) (q : Plan) → Snaps h b q → list_any (is_given m k) q.changes ≡ false
 snaps_gives m k h b q Snaps.NothingToAsk = refl
@@ -107,7 +108,7 @@ no_more false h = absurd (false≢true h)
 
 offers_open : (m : List ℕ) (k : ℕ) (h : Site) (b : Broker) (n : List ℕ) (q : Plan) → Offers h b n q → list_any (is_given m k) q.changes ≡ true → IsOpen b m k
 offers_open m k h b n q Offers.NothingToOffer g = absurd (false≢true g)
-offers_open m k h b n q (Offers.PassesBy v i e ws due is after) g = absurd (false≢true g)
+offers_open m k h b n q (Offers.SkipsMarker v i e ws due is after) g = absurd (false≢true g)
 offers_open m k h b n q (Offers.Caches v i j e c ws due is after) g = absurd (false≢true g)
 offers_open m k h b n q (Offers.Gives v i at e due is picked) g =
     let it = no_more (bytes_eq v.name m && (i == k)) g in
@@ -139,18 +140,14 @@ planned_open m k s w t y (Some p) shape g =
     subst (λ (z : ℕ). IsOpen (broker_at w z) m k) (eqb-true _ _ (left (is_at s t y p) (list_any (is_given m k) p.plan.changes) g))
     (gives_open m k s w p shape (right (is_at s t y p) (list_any (is_given m k) p.plan.changes) g))
 
-pub passes_meant : (d meant : Bool) → meant ≡ true → (not d || meant) ≡ true
-passes_meant true meant h = h
-passes_meant false meant h = refl
-
 -- what a subscription that has passed over j lacks at or below j is not meant for a
-pub open_apart : (b : Broker) (n : List ℕ) (a j i : ℕ) (f : Entry) → HasPassed b n a j → IsOpen b n i → IsEntry b i f → i ≤ j → meant_for a f ≡ false
+pub open_apart : (b : Broker) (n : List ℕ) (a j i : ℕ) (f : Entry) → HasUpdatedTo b n a j → IsOpen b n i → IsEntry b i f → i ≤ j → meant_for a f ≡ false
 open_apart b n a j i f h lacks at le =
     is_false (meant_for a f) (λ meant.
     let sub : lacks.0 ≡ h.sub = same_Some _ _ (sym lacks.1 ∙ h.here) in
     let has_it = h.passed i f le at (passes_meant (is_data f.content) (meant_for a f) meant) in
     unlike (has h.sub.cursor i) has_it (subst (λ (v : Subscription). has v.cursor i ≡ false) sub lacks.2))
 
-pub not_again : (s : Setup) (w : World) (t y : ℕ) (n : List ℕ) (a j : ℕ) → HasPassed (topic_at s w t y) n a j → NotAgain s w t y n a j
+pub not_again : (s : Setup) (w : World) (t y : ℕ) (n : List ℕ) (a j : ℕ) → HasUpdatedTo (topic_at s w t y) n a j → NotAgain s w t y n a j
 not_again s w t y n a j h e i f g at le =
     open_apart (topic_at s w t y) n a j i f h (planned_open n i s w t y (planned s w e) (planned_shape s w e) g) at le

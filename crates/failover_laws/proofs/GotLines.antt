@@ -4,10 +4,10 @@ use Rattle.std.specs.Prelude.{Option, Some, None, if◌then◌else◌, slice_get
 use Rattle.std.proofs.lemmas.Bool.{eqb-true, ltb-true}
 use Rattle.std.proofs.lemmas.List.{get_or-set_same}
 use Rattle.std.proofs.lemmas.Option.{same_Some}
-use Rattle.world_laws.proofs.Types.{Entry, Frame, Ident, Packet, Place, Position, Step}
+use Rattle.world_laws.proofs.Types.{Entry, Frame, Ident, Packet, ClusterRef, Position, Step}
 use Rattle.world_laws.proofs.Types.event
 use Rattle.world_laws.proofs.Types.frame
-use Rattle.world_laws.proofs.Types.place
+use Rattle.world_laws.proofs.Types.cluster_ref
 use Rattle.geo_base.specs.Broker.{Broker}
 use Rattle.geo_base.specs.Client.{Acted, Client, new_client}
 use Rattle.geo_base.specs.Entry.{with_origin}
@@ -57,15 +57,15 @@ last_same {X = X} xs x y is = same_Some x y (sym (at xs x) ∙ ap (λ l. slice_g
 -- ---- the packet of a get
 
 -- a message of this frame, for the sub line in force, is what was got; a message without a source is of the cluster that it came from
-abbrev pub source_at : ℕ → Option Place → Option ℕ
+abbrev pub source_at : ℕ → Option ClusterRef → Option ℕ
 source_at x None = Some x
-source_at x (Some (place.Known z)) = Some z
-source_at x (Some (place.Stranger name)) = None
+source_at x (Some (cluster_ref.Known z)) = Some z
+source_at x (Some (cluster_ref.Stranger name)) = None
 
 pub record IsGot (k : Client) (f : Frame) (ident : Ident) : Type 0 where
   pub id : ℕ
   pub position : Position
-  pub source : Option Place
+  pub source : Option ClusterRef
   pub entry : Entry
   pub is : f ≡ frame.Message id position source entry
   pub current : is_number id k.sub ≡ true
@@ -77,7 +77,7 @@ pub record IsGot (k : Client) (f : Frame) (ident : Ident) : Type 0 where
 none_got : {X : Type 0} (k j : Client) (i : Ident) → SameGot k j → j.got ≡ k.got ++ i ∷ [] → X
 none_got k j i h is = absurd (not_longer k.got i (sym h.is ∙ is))
 
-received_got : (k : Client) (id origin : ℕ) (p : Position) (source : Option Place) (e : Entry) (ident : Ident) → source_at k.cluster source ≡ Some origin
+received_got : (k : Client) (id origin : ℕ) (p : Position) (source : Option ClusterRef) (e : Entry) (ident : Ident) → source_at k.cluster source ≡ Some origin
     → (received k id (with_origin origin e).ident p).got ≡ k.got ++ ident ∷ [] → IsGot k (frame.Message id p source e) ident
 received_got k id origin p source e ident from is = by (is_number id k.sub) refl is
   where
@@ -96,8 +96,8 @@ frame_got d k (frame.SendReceipt id n p) ident is = none_got k _ ident (answered
 frame_got d k (frame.SendError id n code) ident is = none_got k _ ident (answered_got d k n (with_error k) (record { is = refl })) is
 frame_got d k (frame.Error request code) ident is = none_got k (with_error k) ident (record { is = refl }) is
 frame_got d k (frame.Message id p None e) ident is = received_got k id k.cluster p None e ident refl is
-frame_got d k (frame.Message id p (Some (place.Known x)) e) ident is = received_got k id x p (Some (place.Known x)) e ident refl is
-frame_got d k (frame.Message id p (Some (place.Stranger name)) e) ident is = none_got k k ident (record { is = refl }) is
+frame_got d k (frame.Message id p (Some (cluster_ref.Known x)) e) ident is = received_got k id x p (Some (cluster_ref.Known x)) e ident refl is
+frame_got d k (frame.Message id p (Some (cluster_ref.Stranger name)) e) ident is = none_got k k ident (record { is = refl }) is
 frame_got d k f ident is = none_got k k ident (record { is = refl }) is
 
 -- the next packet of a client's link, in its session
@@ -118,7 +118,7 @@ packet_got d k (Some p) ident is = by (p.session == k.connection) refl is
 
 -- ---- a get in a world
 
--- what the client is behind it
+-- what the client is after it
 acted_is : (s : Setup) (w : World) (c : ℕ) (l : Option LinkName) (a : Acted) → c < length w.clients
     → client_at s (client_does s w c l a) c ≡ (if a.idle then client_at s w c else a.client)
 unfolding client_does
@@ -161,7 +161,7 @@ get_is s w c ident size is = by (has_client s c) refl is
 origin_is : (y origin : ℕ) (e : Entry) → source_at y (source_of y e) ≡ Some origin → e.ident.origin ≡ origin
 origin_is y origin e is = by (e.ident.origin == y) refl is
   where
-    by : (t : Bool) → (e.ident.origin == y) ≡ t → source_at y (if t then None else Some (place.Known e.ident.origin)) ≡ Some origin → e.ident.origin ≡ origin
+    by : (t : Bool) → (e.ident.origin == y) ≡ t → source_at y (if t then None else Some (cluster_ref.Known e.ident.origin)) ≡ Some origin → e.ident.origin ≡ origin
     by true own h = eqb-true e.ident.origin y own ∙ same_Some y origin h
     by false other h = same_Some e.ident.origin origin h
 
@@ -218,7 +218,7 @@ gets_behind s v w y c n a j ident came passed since connected subs got = record 
     origin : gets.got.entry.ident.origin ≡ gets.got.origin
     origin =
         origin_is y gets.got.origin gets.got.entry
-        (subst (λ (o : Option Place). source_at y o ≡ Some gets.got.origin) late.from
+        (subst (λ (o : Option ClusterRef). source_at y o ≡ Some gets.got.origin) late.from
         (subst (λ (x : ℕ). source_at x gets.got.source ≡ Some gets.got.origin) connected.cluster gets.got.from))
 
 -- ---- in a run

@@ -14,7 +14,7 @@ use Rattle.world_laws.proofs.Types.write
 use Rattle.geo_base.specs.Broker.{Broker, changed, no_broker, sub_named, written}
 use Rattle.geo_base.specs.Cache.{cached}
 use Rattle.geo_base.specs.Cursor.{has}
-use Rattle.geo_base.specs.Dispatcher.{given, passed_index}
+use Rattle.geo_base.specs.Dispatcher.{given, skipped_index}
 use Rattle.geo_base.specs.Happening.{broker_does, broker_halts, client_does, does_planned, halts_planned, happens, stops}
 use Rattle.geo_base.specs.Moments.{partly_written}
 use Rattle.geo_base.specs.Plan.{Plan, all_changed, all_written, done, halted}
@@ -35,8 +35,9 @@ use Rattle.world_laws.proofs.Telling.ServeTells.{named_is}
 use Rattle.world_laws.proofs.Dispatching.Serving.{named_at, named_map}
 use Rattle.world_laws.proofs.Dispatching.SubFrames.{at_name}
 use Rattle.world_laws.proofs.Walks.Walk.{on_if}
-use Rattle.failover_laws.specs.PassedOver.{HasPassed}
+use Rattle.failover_laws.specs.UpdatedTo.{HasUpdatedTo}
 use Rattle.failover_laws.specs.Since.{AfterEvent, AfterHalt, AfterRound, AfterStop, Idling, KeepsPlaces, Resuming, Since, Starting, StaysAcknowledged, StillHas, is_at, leaves, leaves_behind, takes_back}
+use Rattle.geo_base.proofs.Lists.{get_some_below}
 
 -- ---- one broker
 
@@ -175,7 +176,7 @@ write_keeps per n b (write.Alter m kind replicated) h = named_grows n m (λ s. r
 write_keeps per n b (write.Delete m) h = quietly n b _ (record { entries = refl; ledgers = refl }) (λ u here. record { sub = u; here = found_filter m n b.subs u h here; all = λ i k. k })
 write_keeps per n b (write.Acks m is) h = named_grows n m (with_acks is) b _ (λ u. refl) (λ u i k. has_still is u.cursor i k) (record { entries = refl; ledgers = refl }) refl
 write_keeps per n b (write.Seek m i) h = sought_apart m n (sought i) b _ h (λ u. refl) (record { entries = refl; ledgers = refl }) refl
-write_keeps per n b (write.SenderAck y i) h = same_subs n b _ (record { entries = refl; ledgers = refl }) refl
+write_keeps per n b (write.ReplicatorAck y i) h = same_subs n b _ (record { entries = refl; ledgers = refl }) refl
 write_keeps per n b (write.SessionNumber y session) h = same_subs n b _ (record { entries = refl; ledgers = refl }) refl
 write_keeps per n b write.Ledger h = opened_keeps n b
 
@@ -185,7 +186,7 @@ change_keeps n b (change.Client c session) = same_subs n b _ (record { entries =
 change_keeps n b (change.Attach m k) = named_grows n m (attached k) b _ (λ u. refl) (λ u i h. h) (record { entries = refl; ledgers = refl }) refl
 change_keeps n b (change.Detach c) = all_grow n (detached c) b _ (λ u. refl) (λ u i h. h) (record { entries = refl; ledgers = refl }) refl
 change_keeps n b (change.Permit m c permits) = named_grows n m (permitted c permits) b _ (λ u. refl) (λ u i h. h) (record { entries = refl; ledgers = refl }) refl
-change_keeps n b (change.Passed m i) = named_grows n m (passed_index i) b _ (λ u. refl) (λ u i h. h) (record { entries = refl; ledgers = refl }) refl
+change_keeps n b (change.Skipped m i) = named_grows n m (skipped_index i) b _ (λ u. refl) (λ u i h. h) (record { entries = refl; ledgers = refl }) refl
 change_keeps n b (change.Given m i at) = named_grows n m (given i at) b _ (λ u. refl) (λ u i h. h) (record { entries = refl; ledgers = refl }) refl
 change_keeps n b (change.Cache m snapshot) = named_grows n m (λ s. record s { cache = cached s.cache snapshot }) b _ (λ u. refl) (λ u i h. h) (record { entries = refl; ledgers = refl }) refl
 change_keeps n b (change.Acked m) = named_grows n m after_acks b _ (λ u. refl) (λ u i h. h) (record { entries = refl; ledgers = refl }) refl
@@ -297,7 +298,7 @@ pub within_keeps : (s : Setup) (t y : ℕ) (n : List ℕ) (v w : World) (k : ℕ
     → StaysAcknowledged n (topic_at s v t y) (topic_at s (partly_written s w k (planned s w e)) t y)
 within_keeps s t y n v w k e r h = then_keeps n (topic_at s v t y) (topic_at s w t y) _ (since_keeps s t y n v w r) (partly_keeps s w t y n k (planned s w e) h)
 
-pub still_passed : (n : List ℕ) (b b' : Broker) (a j : ℕ) → StaysAcknowledged n b b' → HasPassed b n a j → HasPassed b' n a j
+pub still_passed : (n : List ℕ) (b b' : Broker) (a j : ℕ) → StaysAcknowledged n b b' → HasUpdatedTo b n a j → HasUpdatedTo b' n a j
 still_passed n b b' a j h p =
     let f = h.cursor p.sub p.here in let l = h.longer in let stands = p.stands in
     record {
@@ -318,16 +319,11 @@ since_then s t y n u v _ h (Idling w k r) = Idling w k (since_then s t y n u v w
 since_then s t y n u v _ h (AfterRound w k r) = AfterRound w k (since_then s t y n u v w h r)
 since_then s t y n u v _ h (Resuming w r) = Resuming w (since_then s t y n u v w h r)
 
-got : {X : Type 0} (xs : List X) (i : ℕ) → i < length xs → (x : X) × (slice_get xs i ≡ Some x)
-got [] i lt = absurd (omega (arith, lt))
-got (x ∷ xs) zero lt = (x, refl)
-got (x ∷ xs) (suc i) lt = got xs i (omega (arith, lt))
-
 -- an entry
 pub entry_stays : (n : List ℕ) (b b' : Broker) (i : ℕ) (e : Entry) → StaysAcknowledged n b b' → IsEntry b i e → IsEntry b' i e
 entry_stays n b b' i e h at =
     let lt = slice_get_within b.entries i e at in let le = h.longer in
-    let f = got b'.entries i (omega (arith, lt, le)) in
+    let f = get_some_below b'.entries i (omega (arith, lt, le)) in
     f.1 ∙ sym (h.same i f.0 lt f.1) ∙ at
 
 -- the index of a position

@@ -1,4 +1,4 @@
--- Nothing that an update passed over is given again behind a step that acts on it.
+-- Nothing that an update passed over is given again after a step that acts on it.
 use Rattle.std.proofs.Common.{◌≡◌, ℕ, ◌+◌, ◌^◌, ◌<◌, List, [], ◌∷◌, ◌++◌, refl, sym, ap, subst, ◌∙◌}
 use Rattle.std.specs.Prelude.{Some, slice_get}
 use Rattle.std.proofs.lemmas.Option.{same_Some}
@@ -21,7 +21,7 @@ use Rattle.world_laws.proofs.Replicating.Pairs.{prefix_always}
 use Rattle.world_laws.proofs.KeptRuns.ResumedRuns.{between_alike, run_open, run_parts}
 use Rattle.world_laws.proofs.Budget.Rounds.{at, goes_on_for_ever}
 use Rattle.failover_laws.specs.Behind.{IsOfSnapshot, UpdatesBehind}
-use Rattle.failover_laws.specs.PassedOver.{HasPassed, MayPass, UpdatesPass}
+use Rattle.failover_laws.specs.UpdatedTo.{HasUpdatedTo, MayUpdateTo, UpdatesHaveEffect}
 use Rattle.failover_laws.specs.Run.{ActsOn, AllLeave, IsNeverAgain, LawNeverAgain, ReadsIndex}
 use Rattle.failover_laws.specs.Since.{AfterEvent, AfterHalt, Since, StaysAcknowledged, Starting}
 use Rattle.failover_laws.proofs.Behind.{behind_always, own_behind}
@@ -40,10 +40,10 @@ record Acted (s : Setup) (r : Ran) (t y a : ℕ) (n : List ℕ) (told : List Clu
   reads : ReadsIndex s (settling_so_far no_limits s r at).world t y a n told j
   after : World
   since : Since s t y n (settling_so_far no_limits s r at).world after
-  passes : MayPass s (settling_so_far no_limits s r at).world t y a n told j → HasPassed (topic_at s after t y) n a j
-  follows : MayPass s (settling_so_far no_limits s r at).world t y a n told j → Since s t y n after (steps no_limits s r e).world
+  is_updated : MayUpdateTo s (settling_so_far no_limits s r at).world t y a n told j → HasUpdatedTo (topic_at s after t y) n a j
+  follows : MayUpdateTo s (settling_so_far no_limits s r at).world t y a n told j → Since s t y n after (steps no_limits s r e).world
 
--- settling goes on behind a read in one of its rounds
+-- settling goes on after a read in one of its rounds
 settling_rest : (s : Setup) (u : World) (t y : ℕ) (n : List ℕ) (m i : ℕ) (e : Event) → m < budget s u + 1 → slice_get (round_of (pairs s)) i ≡ Some e
     → let w = (settling_so_far no_limits s (begun u) (InRound m i)).world in w.events < (happens s w e).events
     → Since s t y n (happens s w e) (settled_world no_limits s (begun u)).world
@@ -63,7 +63,7 @@ acted s u t y a n told j _ (ActsOn.Reads reads) = record {
   reads = reads;
   after = happens s u (event.Read t y a);
   since = AfterEvent u (event.Read t y a) (read_leaves s t y n u t y a) Starting;
-  passes = read_passes s u t y a n told j;
+  is_updated = read_passes s u t y a n told j;
   follows = λ m. Starting;
 }
 acted s u t y a n told j _ (ActsOn.Stops k reads le) = record {
@@ -71,7 +71,7 @@ acted s u t y a n told j _ (ActsOn.Stops k reads le) = record {
   reads = reads;
   after = halts_planned s u k (planned s u (event.Read t y a));
   since = AfterHalt u k (event.Read t y a) (part_leaves k s t y n (planned s u (event.Read t y a)) (read_leaves s t y n u t y a)) Starting;
-  passes = λ m. halted_passes s u t y a n told j k m le;
+  is_updated = λ m. halted_passes s u t y a n told j k m le;
   follows = λ m. Starting;
 }
 acted s u t y a n told j _ (ActsOn.Settles rounds i lt found reads) =
@@ -80,7 +80,7 @@ acted s u t y a n told j _ (ActsOn.Settles rounds i lt found reads) =
       reads = reads;
       after = happens s w (event.Read t y a);
       since = AfterEvent w (event.Read t y a) (read_leaves s t y n w t y a) Starting;
-      passes = read_passes s w t y a n told j;
+      is_updated = read_passes s w t y a n told j;
       follows = λ m. settling_rest s u t y n rounds i (event.Read t y a) lt found (read_counts s w t y a n told j m);
     }
 
@@ -88,7 +88,7 @@ acted s u t y a n told j _ (ActsOn.Settles rounds i lt found reads) =
 
 -- what holds in each world of the run while it is short
 record Standing (s : Setup) (w : World) : Type 0 where
-  passes : UpdatesPass s w
+  is_updated : UpdatesHaveEffect s w
   behind : UpdatesBehind s w
   once : AllOnce w
   prefix : IsPrefix s w
@@ -138,11 +138,11 @@ never_again s v standing es before between rest e t y a n told j at whole acts l
         subst (λ (r : Ran). IsShort (settling_so_far no_limits s r act.at).world → Standing s (settling_so_far no_limits s r act.at).world) open_run
         (standing before act.at) act.reads.short
 
-    may : MayPass s read t y a n told j
+    may : MayUpdateTo s read t y a n told j
     may =
-        let one = stand.passes t y a n told act.reads.next act.reads.room in
+        let one = stand.is_updated t y a n told act.reads.next act.reads.room in
         let same : one.0 ≡ j = same_Some _ _ (sym one.1.names ∙ act.reads.names) in
-        subst (λ (i : ℕ). MayPass s read t y a n told i) same one.1
+        subst (λ (i : ℕ). MayUpdateTo s read t y a n told i) same one.1
 
     follows : Since s t y n act.after w
     follows =
@@ -154,24 +154,24 @@ never_again s v standing es before between rest e t y a n told j at whole acts l
     stays : StaysAcknowledged n (topic_at s read t y) (topic_at s w t y)
     stays = since_keeps s t y n read w (since_then s t y n read act.after w act.since follows)
 
-    passed : HasPassed (topic_at s w t y) n a j
-    passed = still_passed n (topic_at s act.after t y) (topic_at s w t y) a j (since_keeps s t y n act.after w follows) (act.passes may)
+    passed : HasUpdatedTo (topic_at s w t y) n a j
+    passed = still_passed n (topic_at s act.after t y) (topic_at s w t y) a j (since_keeps s t y n act.after w follows) (act.is_updated may)
 
 -- ---- from the opening world, and from one that a run that was kept goes on from
 
 run_stands : (s : Setup) → IsScripted s → AlwaysStanding s (opening_world s)
 run_stands s scripted es at short = record {
-  passes = (passes_between s scripted).between no_limits es at short;
+  is_updated = (passes_between s scripted).between no_limits es at short;
   behind = ((behind_always s scripted).between no_limits es at short).2;
   once = (once_always s).between no_limits es at;
   prefix = (prefix_always s).between no_limits es at;
 }
 
 -- these facts look at brokers alone
-alike_passes : (s : Setup) (v w : World) → v.brokers ≡ w.brokers → UpdatesPass s v → UpdatesPass s w
-alike_passes s v w same h = subst (λ (bs : List Broker). UpdatesPass s (record w { brokers = bs })) same there
+alike_passes : (s : Setup) (v w : World) → v.brokers ≡ w.brokers → UpdatesHaveEffect s v → UpdatesHaveEffect s w
+alike_passes s v w same h = subst (λ (bs : List Broker). UpdatesHaveEffect s (record w { brokers = bs })) same there
   where
-    there : UpdatesPass s (record w { brokers = v.brokers })
+    there : UpdatesHaveEffect s (record w { brokers = v.brokers })
     there t y a n told r room =
         let m = h t y a n told (record { topic = r.topic; pair = r.pair; index = r.index; reads = r.reads; update = r.update }) room in
         (m.0, record { next = r; names = m.1.names; stands = m.1.stands; may = m.1.may })
@@ -198,7 +198,7 @@ resumed_stands s scripted v before alike es at short =
     let h = between_alike s v before es at alike in let w = world_on s v es at in
     let r = run_stands s scripted (before ++ es) at (subst (λ (k : ℕ). k < 2 ^ 62) (sym h.events) short) in
     record {
-      passes = alike_passes s _ w h.brokers r.passes;
+      is_updated = alike_passes s _ w h.brokers r.is_updated;
       behind = alike_behind s _ w h.brokers r.behind;
       once = subst (λ (bs : List Broker). AllOnce (record w { brokers = bs })) h.brokers r.once;
       prefix = subst (λ (bs : List Broker). IsPrefix s (record w { brokers = bs })) h.brokers r.prefix;

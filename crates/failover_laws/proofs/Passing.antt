@@ -17,12 +17,12 @@ use Rattle.world_laws.proofs.Induction.Runs.{between_events}
 use Rattle.world_laws.proofs.Snapshotting.SecondRound.{Knows, knows_now}
 use Rattle.world_laws.proofs.Telling.ToldLaws.{update_always}
 use Rattle.world_laws.proofs.Walks.Walk.{both}
-use Rattle.failover_laws.specs.PassedOver.{LawPasses, MayPass, ReadsUpdate, UpdatesPass}
+use Rattle.failover_laws.specs.UpdatedTo.{LawEffects, MayUpdateTo, ReadsUpdate, UpdatesHaveEffect}
 use Rattle.failover_laws.proofs.Behind.{at_home}
 use Rattle.failover_laws.proofs.TracedRuns.{AllTraced, Tracing, tracing_kept}
 
 may_pass : (s : Setup) (w : World) (settled : SettledSoFar) → Knows s w → AllTraced s w → NamesSettled s w settled → (t y a : ℕ) (n : List ℕ) (told : List ClusterPosition)
-    → ReadsUpdate s w t y a n told → has_room (topic_at s w t y) n ≡ true → (j : ℕ) × MayPass s w t y a n told j
+    → ReadsUpdate s w t y a n told → has_room (topic_at s w t y) n ≡ true → (j : ℕ) × MayUpdateTo s w t y a n told j
 may_pass s w settled k traced names t y a n told r room = (one.1, record { next = r; names = at; stands = stands; may = both (is_name n) (has_room (topic_at s w t y) n) named room })
   where
     one : (p : Position) × (j : ℕ) × (positions_for y told ≡ p ∷ []) × (index_of (topic_at s w t y).ledgers p ≡ Some j)
@@ -42,16 +42,16 @@ may_pass s w settled k traced names t y a n told r room = (one.1, record { next 
         let home = at_home s w t y r.index a e k r.update.stands r.update.origin r.pair.1 r.pair.0 in
         ((traced t a (r.topic, r.pair.1)).updates home.place e n told home.is (eq-eqb e.ident.origin a r.update.origin) r.update.is).name
 
-pub passes_between : LawPasses
+pub passes_between : LawEffects
 passes_between s scripted = record {
   run = λ es short. given.run es short _ (told.run es short);
   limited = λ l es short. given.limited l es short _ (told.limited l es short);
   between = λ l es at short. given.between l es at short _ (told.between l es at short);
 }
   where
-    given : BetweenEvents s (λ w. IsShort w → (settled : SettledSoFar) → NamesSettled s w settled → UpdatesPass s w)
+    given : BetweenEvents s (λ w. IsShort w → (settled : SettledSoFar) → NamesSettled s w settled → UpdatesHaveEffect s w)
     given =
-        between_events s (Tracing s) (λ w. IsShort w → (settled : SettledSoFar) → NamesSettled s w settled → UpdatesPass s w) (tracing_kept s (names_of s scripted))
+        between_events s (Tracing s) (λ w. IsShort w → (settled : SettledSoFar) → NamesSettled s w settled → UpdatesHaveEffect s w) (tracing_kept s (names_of s scripted))
         (λ w h short settled names. may_pass s w settled (knows_now s w h.0.0 short) (h.1 short) names)
 
     told : Always s (λ w settled. IsShort w → NamesSettled s w settled)

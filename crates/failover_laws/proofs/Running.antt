@@ -71,7 +71,7 @@ reads_take m h b y q (Reads.Counts i e id answer u u' next is heard) = refl
 reads_take m h b y q (Reads.AsksAgain i e id answer u u' next is heard) = refl
 reads_take m h b y q (Reads.Completes i e id answer u u' next is heard) = refl
 reads_take m h b y q (Reads.CreatesAt i j e n remote next is named) = refl
-reads_take m h b y q (Reads.PassesOver i j e n remote v ws next is named after) = none_both m ws (write.SenderAck y i ∷ []) (updates_take m h b _ ws after) refl
+reads_take m h b y q (Reads.ActsOnUpdate i j e n remote v ws next is named after) = none_both m ws (write.ReplicatorAck y i ∷ []) (updates_take m h b _ ws after) refl
 
 reset_takes : (m : List ℕ) (h : Site) (b : Broker) (y : ℕ) → list_any (takes_back m) (reset h b y).writes ≡ false
 unfolding reset
@@ -118,7 +118,7 @@ receipt_leaves s t y n w u x z f =
     on_if (λ (o : Option Planned). leaves s t y n o ≡ true) (in_range s (event.Receipt u x z f)) (planned_in s w (event.Receipt u x z f)) None
     (not_both _ _ (receipt_takes n (site s u x) (topic_at s w u x) z f (next_packet (link_at w.links (Back (node s u x) z))))) refl
 
--- what leaves n does so behind the first k of its writes
+-- what leaves n does so after the first k of its writes
 any_take : {X : Type 0} (f : X → Bool) (k : ℕ) (xs : List X) → list_any f xs ≡ false → list_any f (take k xs) ≡ false
 any_take f zero xs h = refl
 any_take f (suc k) [] h = refl

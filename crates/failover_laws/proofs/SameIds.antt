@@ -4,10 +4,10 @@ use Rattle.std.proofs.Common.{◌≡◌, ℕ, ◌+◌, ◌-◌, Bool, true, fals
 use Rattle.std.specs.Prelude.{Some, ◌||◌, if◌then◌else◌, nat_lt, slice_get}
 use Rattle.std.proofs.lemmas.Bool.{false≢true}
 use Rattle.std.proofs.lemmas.Option.{none-some, slice_get_within}
-use Rattle.world_laws.proofs.Types.{Builder, ClusterPosition, Entry, Position, Progress, Write}
+use Rattle.world_laws.proofs.Types.{SnapshotBuilder, ClusterPosition, Entry, Position, Progress, Write}
 use Rattle.world_laws.proofs.Types.progress
 use Rattle.geo_base.specs.Broker.{Broker, Site, cluster_name}
-use Rattle.geo_base.specs.Builder.{Heard, counts, current_id, judged, on_response, second_id, snapshot_id, with_response}
+use Rattle.geo_base.specs.SnapshotBuilder.{Heard, counts, current_id, judged, on_response, second_id, snapshot_id, with_response}
 use Rattle.geo_base.specs.Markers.{request_marker}
 use Rattle.geo_base.specs.Plan.{all_written}
 use Rattle.geo_base.specs.Topic.{index_of, next_position, position_at}
@@ -22,6 +22,7 @@ use Rattle.world_laws.proofs.Replicating.Prefixes.{is_of}
 use Rattle.world_laws.proofs.Walks.Shapes.{Hears}
 use Rattle.world_laws.proofs.Snapshotting.SnapshotFacts.{Form}
 use Rattle.world_laws.proofs.Walks.Walk.{on_if, on_test}
+use Rattle.geo_base.proofs.Bools.{or_not_first}
 
 abbrev pub SameIds : ℕ → List Entry → Type 0
 SameIds x es = (k l : ℕ) (id : List ℕ) → RequestAt x es k id → RequestAt x es l id → k ≡ l
@@ -35,20 +36,16 @@ is_second g = false
 abbrev FromFirst : Bool → Heard → Type 0
 FromFirst second r = is_second r.progress ≡ true → second ≡ false
 
-first_of : (a b : Bool) → (a || b) ≡ false → a ≡ false
-first_of true b h = h
-first_of false b h = refl
-
-judged_first : (u : Builder) → FromFirst u.second (judged u)
+judged_first : (u : SnapshotBuilder) → FromFirst u.second (judged u)
 judged_first u =
     on_if (FromFirst u.second) (nat_lt (length u.heard + 1) u.clusters) _ _ (λ is. absurd (false≢true is))
-    (on_test (FromFirst u.second) (u.second || (u.clusters == 2)) _ _ (λ done is. absurd (false≢true is)) (λ more is. first_of u.second (u.clusters == 2) more))
+    (on_test (FromFirst u.second) (u.second || (u.clusters == 2)) _ _ (λ done is. absurd (false≢true is)) (λ more is. or_not_first u.second (u.clusters == 2) more))
 
-response_first : (u : Builder) (id : List ℕ) (c : ℕ) (remote local : Position) → FromFirst u.second (on_response u id c remote local)
+response_first : (u : SnapshotBuilder) (id : List ℕ) (c : ℕ) (remote local : Position) → FromFirst u.second (on_response u id c remote local)
 response_first u id c remote local =
     on_if (FromFirst u.second) (counts u id c) _ _ (judged_first (with_response u c remote local)) (λ is. absurd (false≢true is))
 
-was_first : (b : Broker) (y i : ℕ) (id : List ℕ) (answer : ClusterPosition) (u u' : Builder) → Hears b y i id answer u progress.SecondRound u' → u.second ≡ false
+was_first : (b : Broker) (y i : ℕ) (id : List ℕ) (answer : ClusterPosition) (u u' : SnapshotBuilder) → Hears b y i id answer u progress.SecondRound u' → u.second ≡ false
 was_first b y i id answer u u' heard = subst (FromFirst u.second) heard (response_first u id y answer.position (position_at b.ledgers i)) refl
 
 -- ---- what is new
@@ -92,7 +89,7 @@ new_request h b ws (Requests.Second y i old answer u u' is_u heard vs none) numb
     let same : second_id u.id ≡ id = sym current ∙ ap (λ (a : Entry). asked_id a.content) o.1 ∙ ap asked_id asks.1 in
     record { first = o.0; none = subst (NoneOf h.own b.entries) same (m.not_yet u is_u (was_first b y i old answer u u' heard)) }
 
--- behind the writes of an event, or a beginning of them
+-- after the writes of an event, or a beginning of them
 pub ids_written : (h : Site) (b : Broker) (ws : List Write) → Requests h b ws → Numbered b.entries b.ledgers → Telling h.per_ledger (cluster_name h h.own) b.ledgers
     → MadeAfter (length h.clusters) h.own (cluster_name h h.own) b.entries b.ledgers b.builder → SameIds h.own b.entries → SameIds h.own (all_written h.per_ledger b ws).entries
 ids_written h b ws asked numbered tells m ids k l id r q =

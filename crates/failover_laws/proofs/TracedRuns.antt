@@ -45,7 +45,7 @@ TracedAt s x b = Traced (length s.clusters) x b.entries b.subs
 abbrev pub AllTraced : Setup → World → Type 0
 AllTraced s w = Everywhere s (TracedAt s) w
 
--- behind writes and changes of whatever event
+-- after writes and changes of whatever event
 node_traced : (s : Setup) → Named s → (w : World) → IsShort w → Known s w → AllTraced s w → (t x : ℕ) → IsThere s t x → (ws : List Write) (cs : List Change)
     → Does (site s t x) (topic_at s w t x) ws cs → TracedAt s x (all_changed (all_written s.per_ledger (topic_at s w t x) ws) cs)
 node_traced s names w short h old t x there ws cs does =
@@ -63,7 +63,7 @@ whole s w p shape h old there =
       brings = building_caches (site s t x) b p.plan (shape_building s w p shape none);
     }
 
--- stopped behind k writes
+-- stopped after k writes
 part : (s : Setup) (w : World) (k : ℕ) (p : Planned) → Shape s w p → Known s w → AllTraced s w → IsThere s p.topic p.cluster
     → Does (site s p.topic p.cluster) (topic_at s w p.topic p.cluster) (take k p.plan.writes ++ write.Ledger ∷ []) (change.Forget ∷ [])
 part s w k p shape h old there =

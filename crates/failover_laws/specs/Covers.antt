@@ -5,9 +5,9 @@ use Rattle.geo_base.specs.declared.entry.Entry.{Entry}
 use Rattle.geo_base.specs.declared.event.Event.{Event}
 use Rattle.geo_base.specs.declared.marker.ClusterPosition.{ClusterPosition}
 use Rattle.geo_base.specs.declared.marker.Marker.TheVariants as marker
-use Rattle.geo_base.specs.declared.marker.Place.TheVariants as place
+use Rattle.geo_base.specs.declared.marker.ClusterRef.TheVariants as cluster_ref
 use Rattle.geo_base.specs.declared.position.Position.{Position}
-use Rattle.geo_base.specs.Builder.{named}
+use Rattle.geo_base.specs.SnapshotBuilder.{named}
 use Rattle.geo_base.specs.Cache.{cut_of}
 use Rattle.geo_base.specs.Entry.{meant_for}
 use Rattle.geo_base.specs.Laws.{ArePair, IsShort, MarkerAt}
@@ -19,7 +19,7 @@ use Rattle.geo_base.specs.Updating.{only_index, positions_for}
 use Rattle.geo_base.specs.World.{World, opening_world, topic_at}
 use Rattle.world_laws.specs.Reached.{ReachedFrom}
 use Rattle.failover_laws.specs.Again.{gives}
-use Rattle.failover_laws.specs.PassedOver.{HasPassed}
+use Rattle.failover_laws.specs.UpdatedTo.{HasUpdatedTo}
 use Rattle.failover_laws.specs.Since.{Since}
 
 -- in w these places are those of a snapshot of a that was asked for since v: its request stands above all that stood at a in v
@@ -31,7 +31,7 @@ pub record IsAskedSince (s : Setup) (v w : World) (t a : ℕ) (remote : List Clu
   pub snapshot : MarkerAt (topic_at s w t a) index a (marker.Snapshot id local listed)
   pub same : remote ≡ named (cut_of a (length s.clusters) local listed)
   pub request : ℕ
-  pub asks : MarkerAt (topic_at s w t a) request a (marker.Request id (place.Known a))
+  pub asks : MarkerAt (topic_at s w t a) request a (marker.Request id (cluster_ref.Known a))
   pub since : length (topic_at s v t a).entries ≤ request
 
 -- the index that such places name at y is above all that stood at y in v
@@ -47,7 +47,7 @@ NotOfThen s v w t y n a =
 -- so where n has passed over that index at y in world w, none of it is given there again while nobody deletes or seeks n there
 abbrev pub CoveredNotAgain : Setup → World → World → Type 0
 CoveredNotAgain s v w = (t a y j : ℕ) (n : List ℕ) (remote : List ClusterPosition) (u : World) → ArePair s a y → IsAskedSince s v w t a remote
-    → only_index (topic_at s w t y).ledgers (positions_for y remote) ≡ Some j → HasPassed (topic_at s w t y) n a j → Since s t y n w u → NotOfThen s v u t y n a
+    → only_index (topic_at s w t y).ledgers (positions_for y remote) ≡ Some j → HasUpdatedTo (topic_at s w t y) n a j → Since s t y n w u → NotOfThen s v u t y n a
 
 -- v and w being worlds that a run comes to one after the other, in runs of fewer than 2^62 events
 pub record LawCovers : Type 0 where

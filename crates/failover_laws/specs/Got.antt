@@ -1,4 +1,4 @@
--- What a client gets behind a move: the messages that the got lines of a report name.
+-- What a client gets after a move: the messages that the got lines of a report name.
 use Rattle.std.specs.Prelude.{◌≡◌, ℕ, ◌<◌, ◌⊎◌, false, List, [], ◌∷◌, ◌++◌, Some}
 use Rattle.geo_base.specs.declared.entry.Entry.{Entry}
 use Rattle.geo_base.specs.declared.entry.Ident.{Ident}
@@ -18,7 +18,7 @@ use Rattle.world_laws.specs.AlikeWorlds.{AreAlike, world_on}
 use Rattle.world_laws.specs.Reached.{ReachedFrom}
 use Rattle.world_laws.specs.Starts.{resumed_world}
 use Rattle.world_laws.specs.SubLines.{IsSubLine}
-use Rattle.failover_laws.specs.PassedOver.{HasPassed}
+use Rattle.failover_laws.specs.UpdatedTo.{HasUpdatedTo}
 use Rattle.failover_laws.specs.Run.{ActsOn, AllLeave}
 use Rattle.failover_laws.specs.Since.{Since}
 
@@ -31,7 +31,7 @@ pub record IsConnectedSince (s : Setup) (v w : World) (c y : ℕ) : Type 0 where
 abbrev pub SubsTo : Setup → World → ℕ → List ℕ → Type 0
 SubsTo s w c n = (i : ℕ) × ((client_at s w c).sub ≡ Some i) × IsSubLine (declared_at s c) i n
 
--- the message of this identity stands at y behind index j, or is not meant for a
+-- the message of this identity stands at y after index j, or is not meant for a
 pub record IsBehindOrApart (s : Setup) (w : World) (t y a j : ℕ) (ident : Ident) : Type 0 where
   pub index : ℕ
   pub entry : Entry
@@ -45,15 +45,15 @@ pub data CameTo (s : Setup) : World → Type 0 where
   Going : (u v : World) → CameTo s u → ReachedFrom s u v → CameTo s v
   GoingOn : (u : World) → CameTo s u → CameTo s (resumed_world s u)
 
--- each message that a get adds to what c got, on a connection to y that c opened since n had passed over index j there, stands at y behind
+-- each message that a get adds to what c got, on a connection to y that c opened since n had passed over index j there, stands at y after
 -- j, or is not meant for a. A client works on one topic
 abbrev pub GetsBehind : Setup → Type 0
 GetsBehind s = (v w : World) (y c : ℕ) (n : List ℕ) (a j : ℕ) (ident : Ident) → CameTo s v
-    → let t = (declared_at s c).topic in HasPassed (topic_at s v t y) n a j → Since s t y n v w → IsConnectedSince s v w c y → SubsTo s w c n
+    → let t = (declared_at s c).topic in HasUpdatedTo (topic_at s v t y) n a j → Since s t y n v w → IsConnectedSince s v w c y → SubsTo s w c n
     → (client_at s (happens s w (event.Get c)) c).got ≡ (client_at s w c).got ++ ident ∷ []
     → IsBehindOrApart s w t y a j ident
 
--- in the run of these steps from v: so it is on each connection to y that c opened behind a step that acts on an update of a for n
+-- in the run of these steps from v: so it is on each connection to y that c opened after a step that acts on an update of a for n
 abbrev pub IsNeverGotAgain : Setup → World → List Step → Type 0
 IsNeverGotAgain s v es = (before between rest : List Step) (e : Step) (y a c : ℕ) (n : List ℕ) (remote : List ClusterPosition) (j : ℕ) (at : Settling) (ident : Ident)
     → es ≡ before ++ e ∷ (between ++ rest)
@@ -64,7 +64,7 @@ IsNeverGotAgain s v es = (before between rest : List Step) (e : Step) (y a c : �
     → IsBehindOrApart s w t y a j ident
 
 -- of a run from the opening world, and of one that goes on over links that were never used from a world that is alike to where such a
--- run came, as from what was kept of it behind a stop
+-- run came, as from what was kept of it after a stop
 pub record LawGot : Type 0 where
   pub gets : (s : Setup) → GetsBehind s
   pub script : (s : Setup) → IsScripted s → (es : List Step) → IsNeverGotAgain s (opening_world s) es

@@ -1,5 +1,5 @@
 pub mod Since
-pub mod PassedOver
+pub mod UpdatedTo
 pub mod Again
 pub mod Behind
 pub mod Run

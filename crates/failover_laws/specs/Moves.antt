@@ -48,7 +48,7 @@ abbrev pub AllCovered : Setup → List Step → Type 0
 AllCovered s es = (before between rest : List Step) (at : Settling) → es ≡ before ++ (between ++ rest)
     → let v = run s before in let w = led_on s before between at in Covers s v w × CoveredNotAgain s v w
 
--- While further steps neither delete nor seek n at y, an update of a for n that y's sender to a had not acknowledged in v is acknowledged
+-- While further steps neither delete nor seek n at y, an update of a for n that y's replicator to a had not acknowledged in v is acknowledged
 -- in w only where n has passed over what it names
 abbrev pub AllActedOn : Setup → List Step → Type 0
 AllActedOn s es = (before between rest : List Step) (t y a k num : ℕ) (told : List ClusterPosition) (at : Settling) → es ≡ before ++ (between ++ rest)

@@ -8,7 +8,7 @@ use Rattle.geo_base.specs.declared.event.Step.TheVariants as step
 use Rattle.geo_base.specs.declared.event.Step.{Step}
 use Rattle.geo_base.specs.declared.marker.ClusterPosition.{ClusterPosition}
 use Rattle.geo_base.specs.declared.marker.Marker.TheVariants as marker
-use Rattle.geo_base.specs.Broker.{sender_at, sub_named}
+use Rattle.geo_base.specs.Broker.{replicator_at, sub_named}
 use Rattle.geo_base.specs.Cursor.{has}
 use Rattle.geo_base.specs.Entry.{goes_to, is_data, meant_for}
 use Rattle.geo_base.specs.Happening.{halts_planned, happens, stops}
@@ -24,7 +24,7 @@ use Rattle.geo_base.specs.Updating.{only_index, positions_for}
 use Rattle.geo_base.specs.World.{World, opening_world, topic_at}
 use Rattle.world_laws.specs.Reached.{ReachedFrom}
 use Rattle.failover_laws.specs.Covers.{IsAskedSince, NotOfThen}
-use Rattle.failover_laws.specs.PassedOver.{HasPassed}
+use Rattle.failover_laws.specs.UpdatedTo.{HasUpdatedTo}
 use Rattle.failover_laws.specs.Run.{AllLeave}
 use Rattle.failover_laws.specs.Since.{Since, leaves, leaves_behind}
 
@@ -42,15 +42,15 @@ pub data LeftFrom (s : Setup) (t y : ℕ) (n : List ℕ) (v : World) : World →
 pub record HasActed (s : Setup) (w : World) (t y a : ℕ) (n : List ℕ) (told : List ClusterPosition) : Type 0 where
   pub index : ℕ
   pub names : only_index (topic_at s w t y).ledgers (positions_for y told) ≡ Some index
-  pub passed : HasPassed (topic_at s w t y) n a index
+  pub passed : HasUpdatedTo (topic_at s w t y) n a index
 
--- wherever the entry e stands in y's topic, its sender to a has acknowledged it only where n has passed over what the places name
+-- wherever the entry e stands in y's topic, its replicator to a has acknowledged it only where n has passed over what the places name
 abbrev pub ActsBefore : Setup → World → ℕ → ℕ → ℕ → List ℕ → List ClusterPosition → Entry → Type 0
-ActsBefore s w t y a n told e = (i : ℕ) → IsEntry (topic_at s w t y) i e → has (sender_at (topic_at s w t y) a).cursor i ≡ true → HasActed s w t y a n told
+ActsBefore s w t y a n told e = (i : ℕ) → IsEntry (topic_at s w t y) i e → has (replicator_at (topic_at s w t y) a).cursor i ≡ true → HasActed s w t y a n told
 
--- y's sender to a has not acknowledged it anywhere
+-- y's replicator to a has not acknowledged it anywhere
 abbrev pub IsUnread : Setup → World → ℕ → ℕ → ℕ → Entry → Type 0
-IsUnread s v t y a e = (i : ℕ) → IsEntry (topic_at s v t y) i e → has (sender_at (topic_at s v t y) a).cursor i ≡ false
+IsUnread s v t y a e = (i : ℕ) → IsEntry (topic_at s v t y) i e → has (replicator_at (topic_at s v t y) a).cursor i ≡ false
 
 -- n is there, or may be made there, whatever comes that leaves it. It is so where n is there in v (`room` of LawSwitchover), and always of
 -- a subscription that a script names (LawRoom)
@@ -66,7 +66,7 @@ LawActs = (s : Setup) → IsScripted s → (v w : World) (t y a k : ℕ) (n : Li
 -- LawGot says of clients holds of it)
 pub record HasAllOf (s : Setup) (v w : World) (t y a : ℕ) (n : List ℕ) : Type 0 where
   pub index : ℕ
-  pub passed : HasPassed (topic_at s w t y) n a index
+  pub passed : HasUpdatedTo (topic_at s w t y) n a index
   pub high : length (topic_at s v t y).entries ≤ index
   pub sub : Subscription
   pub here : sub_named (topic_at s w t y).subs n ≡ Some sub

@@ -9,7 +9,7 @@
 mod again;
 mod moves;
 
-pub use again::{law_again, law_behind, law_follows, law_got, law_never_again, law_passes};
+pub use again::{law_again, law_behind, law_effects, law_follows, law_got, law_never_again};
 pub use moves::{
     law_covers, law_drained, law_ended, law_handover, law_offered, law_room, law_switchover,
 };

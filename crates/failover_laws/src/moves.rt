@@ -18,7 +18,7 @@ pub fn law_covers()
     ensures { LawCovers }
 {}
 
-/// No sender acknowledges an update that it did not act on; and an update that came is acted on once all has settled.
+/// No replicator acknowledges an update that it did not act on; and an update that came is acted on once all has settled.
 pub fn law_switchover()
     ensures { LawSwitchover }
 {}

@@ -71,7 +71,7 @@ entry_some names own before bytes are =
     let heading = heading_some names own before bytes t.0 parts.0 in
     then_some (IsHeading names own before bytes t.0) (λ h q. IsPayload names h t.1 q) heading.0 heading.1 (λ h k. payload_some names h t.1 parts.1))
 
--- what stands behind it
+-- what stands after it
 payload_leaves : (names : List (List ℕ)) (h : _) (bytes : List ℕ) (x : Entry × List ℕ) → IsPayload names h bytes (Ok x) → AreBytes bytes → AreBytes x.1
 payload_leaves names h bytes x k are =
     let p = told (λ r. r ≡ text_at bytes) (λ p r. IsSized names h bytes p.0 p.1 r) x k in

@@ -14,7 +14,7 @@ use Rattle.geo_base.specs.Sizes.{entry_size, marker_type, most_entry_size}
 use Rattle.geo_base.specs.Laws.{IsShort}
 use Rattle.geo_base.specs.World.{World, topic_at}
 use Rattle.frame_values.specs.Texts.{marker_number}
-use Rattle.topic_upkeep.specs.Readable.{AreReadable, AreTellable, IsReadable}
+use Rattle.tiered_storage.specs.Readable.{AreReadable, AreTellable, IsReadable}
 use Rattle.message_meta.specs.Known.{IsRest}
 use Rattle.world_laws.specs.Plain.{IsPlainContent, IsPlainEntry}
 use Rattle.world_laws.proofs.Replicating.Effects.{Each}
@@ -23,10 +23,10 @@ use Rattle.world_laws.proofs.Induction.LimitedRuns.{limited_short}
 use Rattle.world_laws.proofs.FrameContents.NewEntries.{IsFit}
 use Rattle.world_laws.proofs.Induction.Runs.{IsKeptByEvents, between_by_events, by_events}
 use Rattle.file_laws.specs.Ledgers.{LawReadable}
-use Rattle.world_kept.proofs.Clients.{AllClients}
-use Rattle.world_kept.proofs.Entries.{AreNames, written}
-use Rattle.world_kept.proofs.Got.{Below, Goes, going_kept}
-use Rattle.world_kept.proofs.Sayable.{IsSayable}
+use Rattle.kept_laws.proofs.Clients.{AllClients}
+use Rattle.kept_laws.proofs.Entries.{AreNames, written}
+use Rattle.kept_laws.proofs.Got.{Below, Goes, going_kept}
+use Rattle.kept_laws.proofs.Sayable.{IsSayable}
 
 kept_now : (s : Setup) (P : World → Type 0) → IsKeptByEvents s P → (es : List Step) → P (run_under all_limits s es).world
 kept_now s P k es = (between_by_events s P P k (λ w p. p)).limited all_limits es

@@ -74,8 +74,8 @@ pub body_some : (version size : ℕ) (body : List ℕ) → AreBytes body → Som
 body_some version size body are =
     then_some (λ r. r ≡ head_at body) (λ h r. Then (AreNodes version h.0.0.setup h.1) (λ ns q. q ≡ tail_at size (length body) h.0.0 h.0.1 ns.0 ns.1) r) (head_at body) refl
     (λ h is.
-    let nodes = nodes_some version h.0.0.setup h.1 (head_leaves body h (sym is) are) in
-    then_some (AreNodes version h.0.0.setup h.1) (λ ns q. q ≡ tail_at size (length body) h.0.0 h.0.1 ns.0 ns.1) nodes.0 nodes.1
+    let brokers = nodes_some version h.0.0.setup h.1 (head_leaves body h (sym is) are) in
+    then_some (AreNodes version h.0.0.setup h.1) (λ ns q. q ≡ tail_at size (length body) h.0.0 h.0.1 ns.0 ns.1) brokers.0 brokers.1
     (λ ns k. (tail_at size (length body) h.0.0 h.0.1 ns.0 ns.1, refl)))
 
 -- ---- the file

@@ -1,4 +1,4 @@
--- What stands behind the ledgers, the subscriptions and the replicators of a broker, and behind what a run counted, is bytes.
+-- What stands after the ledgers, the subscriptions and the replicators of a broker, and after what a run counted, is bytes.
 use Rattle.std.proofs.Common.{◌≡◌, ℕ, ◌+◌, ◌==◌, Bool, true, false, List, [], length, Ok}
 use Rattle.std.specs.Prelude.{if◌then◌else◌, is_none, nat_le, nat_lt, ◌&&◌}
 use Rattle.std.specs.List.{sum}
@@ -6,7 +6,7 @@ use Rattle.geo_base.specs.declared.entry.Entry.{Entry}
 use Rattle.geo_base.specs.Broker.{Broker, sub_named}
 use Rattle.geo_base.specs.Name.{is_name}
 use Rattle.geo_base.specs.Run.{most_events, most_sent_bytes}
-use Rattle.geo_base.specs.Sender.{Sender, new_sender}
+use Rattle.geo_base.specs.Replicator.{Replicator, new_replicator}
 use Rattle.geo_base.specs.Subscribing.{most_subs}
 use Rattle.geo_base.specs.Subscription.{Subscription, new_subscription}
 use Rattle.state_items.specs.declared.rule.Rule.TheVariants as rule
@@ -18,7 +18,7 @@ use Rattle.state_nodes.specs.declared.counts.Counts.{Counts}
 use Rattle.state_nodes.specs.Counts.{counts_at}
 use Rattle.state_nodes.specs.Ledgers.{entry_count, ledgers_at, length_at}
 use Rattle.state_nodes.specs.Nodes.{behind_entries, broker_with, counted_ledgers_at, shares_at}
-use Rattle.state_nodes.specs.Senders.{place_at, sender_at, senders_at}
+use Rattle.state_nodes.specs.Replicators.{place_at, replicator_at, replicators_at}
 use Rattle.state_nodes.specs.Subs.{byte_within, kind_of, most_kind, name_at, seeks_at, sub_at, subs_at}
 use Rattle.codec_laws.specs.Answers.{AreBytes}
 use Rattle.file_laws.proofs.Leaving.{Leaves, behind, byte_leaves, cursor_leaves, many_leaves, number_leaves, tested, text_leaves, within_leaves}
@@ -90,33 +90,33 @@ subs_leave version n bytes x h are =
 
 -- ---- replicators
 
-sender_leaves : (n : ℕ) (bytes : List ℕ) (x : Sender × List ℕ) → sender_at n bytes ≡ Ok x → AreBytes bytes → AreBytes x.1
-unfolding sender_at
-sender_leaves n bytes x h are =
+replicator_leaves : (n : ℕ) (bytes : List ℕ) (x : Replicator × List ℕ) → replicator_at n bytes ≡ Ok x → AreBytes bytes → AreBytes x.1
+unfolding replicator_at
+replicator_leaves n bytes x h are =
     let session = came (number_within most_count rule.Count bytes) _ x h in
     let acked = came (cursor_at n session.first.1) _ x session.next in
-    behind (record new_sender { cursor = acked.first.0; session = session.first.0 }, acked.first.1) x acked.next
+    behind (record new_replicator { cursor = acked.first.0; session = session.first.0 }, acked.first.1) x acked.next
     (cursor_leaves n session.first.1 acked.first acked.is (within_leaves most_count rule.Count bytes session.first session.is are))
 
 place_leaves : (n own : ℕ) → Leaves (place_at n own)
 place_leaves n own before bytes x h are = by (length before == own) h
   where
-    by : (b : Bool) → (if b then Ok (new_sender, bytes) else sender_at n bytes) ≡ Ok x → AreBytes x.1
-    by true e = behind (new_sender, bytes) x e are
-    by false e = sender_leaves n bytes x e are
+    by : (b : Bool) → (if b then Ok (new_replicator, bytes) else replicator_at n bytes) ≡ Ok x → AreBytes x.1
+    by true e = behind (new_replicator, bytes) x e are
+    by false e = replicator_leaves n bytes x e are
 
-senders_leave : (n own clusters : ℕ) (bytes : List ℕ) (x : List Sender × List ℕ) → senders_at n own clusters bytes ≡ Ok x → AreBytes bytes → AreBytes x.1
-senders_leave n own clusters bytes x h are = many_leaves (place_at n own) (place_leaves n own) clusters [] bytes x h are
+replicators_leave : (n own clusters : ℕ) (bytes : List ℕ) (x : List Replicator × List ℕ) → replicators_at n own clusters bytes ≡ Ok x → AreBytes bytes → AreBytes x.1
+replicators_leave n own clusters bytes x h are = many_leaves (place_at n own) (place_leaves n own) clusters [] bytes x h are
 
 -- ---- both
 
-shares_leave : (version own clusters n : ℕ) (bytes : List ℕ) (x : (List Subscription × List Sender) × List ℕ) → shares_at version own clusters n bytes ≡ Ok x → AreBytes bytes → AreBytes x.1
+shares_leave : (version own clusters n : ℕ) (bytes : List ℕ) (x : (List Subscription × List Replicator) × List ℕ) → shares_at version own clusters n bytes ≡ Ok x → AreBytes bytes → AreBytes x.1
 unfolding shares_at
 shares_leave version own clusters n bytes x h are =
     let subs = came (subs_at version n bytes) _ x h in
-    let senders = came (senders_at n own clusters subs.first.1) _ x subs.next in
-    behind ((subs.first.0, senders.first.0), senders.first.1) x senders.next
-    (senders_leave n own clusters subs.first.1 senders.first senders.is (subs_leave version n bytes subs.first subs.is are))
+    let replicators = came (replicators_at n own clusters subs.first.1) _ x subs.next in
+    behind ((subs.first.0, replicators.first.0), replicators.first.1) x replicators.next
+    (replicators_leave n own clusters subs.first.1 replicators.first replicators.is (subs_leave version n bytes subs.first subs.is are))
 
 pub behind_entries_leave : (version own clusters : ℕ) (ledgers : List ℕ) (entries : List Entry) (bytes : List ℕ) (x : Broker × List ℕ) → behind_entries version own clusters ledgers entries bytes ≡ Ok x → AreBytes bytes → AreBytes x.1
 unfolding behind_entries

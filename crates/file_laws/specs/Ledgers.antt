@@ -3,7 +3,7 @@ use Rattle.std.specs.Prelude.{ℕ, ◌<◌, List, length}
 use Rattle.geo_base.specs.declared.event.Step.{Step}
 use Rattle.geo_base.specs.Run.{all_limits, run_under}
 use Rattle.geo_base.specs.World.{topic_at}
-use Rattle.topic_upkeep.specs.Readable.{AreReadable}
+use Rattle.tiered_storage.specs.Readable.{AreReadable}
 use Rattle.script_text.specs.Scenario.{IsScenario}
 use Rattle.script_text.specs.Script.{Script}
 

@@ -14,7 +14,7 @@ ghost use Rattle.state_file.specs.State.{SavedState};
 ghost use Rattle.codec_laws.specs.Answers.{AreBytes};
 
 /// Any bytes say some metadata or say none; any metadata and payload are an entry, whichever cluster stored it first; and any bytes are read
-/// as an entry behind others, and as a number of entries, or as the first item that breaks a rule.
+/// as an entry after others, and as a number of entries, or as the first item that breaks a rule.
 pub fn law_entries()
     ensures metadata { (bytes : List ℕ) → AreBytes bytes → (said : Option Metadata) × Says bytes said }
     ensures stored { (names : List (List ℕ)) (m : Metadata) (x : ℕ) (payload : List ℕ) → AreBytes payload → (e : Entry) × IsStored names m x payload e }
@@ -28,7 +28,7 @@ pub fn law_brokers()
     ensures brokers { (version : ℕ) (s : Setup) (bytes : List ℕ) → AreBytes bytes → (read : Read (List Broker)) × AreNodes version s bytes read }
 {}
 
-/// Any bytes are loaded as a state, or refused; so are those of a body behind its size.
+/// Any bytes are loaded as a state, or refused; so are those of a body after its size.
 pub fn law_loaded()
     ensures body { (version size : ℕ) (bytes : List ℕ) → AreBytes bytes → (read : Answer SavedState) × IsBody version size bytes read }
     ensures file { (bytes : List ℕ) → AreBytes bytes → (answer : Loaded) × IsLoaded bytes answer }

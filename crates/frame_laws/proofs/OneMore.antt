@@ -1,4 +1,4 @@
--- One more event in the book of a node.
+-- One more event in the log of a node.
 use Rattle.std.proofs.Common.{◌≡◌, ℕ, ◌-◌, ◌<◌, Bool, true, false, List, [], ◌∷◌, ◌++◌, length, map, refl, sym, ap, subst, ◌∙◌, nat_lt}
 use Rattle.std.specs.Prelude.{Option, Some, None, if◌then◌else◌}
 use Rattle.std.proofs.lemmas.Option.{none-some, same_Some}
@@ -16,7 +16,7 @@ use Rattle.geo_base.specs.Nodes.{Node, broker_count, is_event, is_peer, node_cou
 use Rattle.geo_base.specs.Planned.{in_range}
 use Rattle.geo_base.specs.Scripted.{AreDistinct, IsScripted}
 use Rattle.geo_base.specs.Setup.{Setup, declared_at}
-use Rattle.frame_laws.specs.Books.{AllToPeers, AreSentAs, IsBookOf, IsNext, StandsAs}
+use Rattle.frame_laws.specs.Logs.{AllToPeers, AreSentAs, IsLogOf, IsNext, StandsAs}
 use Rattle.frame_laws.proofs.Reading.{stands_told}
 use Rattle.frame_values.proofs.One.{written_stands}
 use Rattle.frame_values.specs.Told.{IsTold, IsToldEntry}
@@ -111,8 +111,8 @@ happens : (s : Setup) (n : ℕ) (st : NodeState) (clock : ℕ) (x : ByteEvent Wi
 happens s n st clock x v h = record { here = h.here; in_range = h.in_range; enabled = h.enabled; input = h.input; stamp = h.stamp; sent = refl }
 
 pub grows : (s : Setup) (n : ℕ) (xs : List (ByteEvent WirePacket)) (st : NodeState) (clock : ℕ) (x : ByteEvent WirePacket) (v : Option Packet)
-    → IsScripted s → IsBookOf s n xs st clock → IsNext s n st clock x v
-    → IsBookOf s n (xs ++ x ∷ []) (acts s st x.event v).state x.stamp
+    → IsScripted s → IsLogOf s n xs st clock → IsNext s n st clock x v
+    → IsLogOf s n (xs ++ x ∷ []) (acts s st x.event v).state x.stamp
 grows s n xs st clock x v scripted b h = record {
   said = b.said ++ d ∷ [];
   stands = stand_push (StandsAs s.clusters) xs b.said x d b.stands (record { event = refl; stamp = refl; taken = h.taken; sent = sent });
@@ -141,7 +141,7 @@ to_peers s n [] h = tt
 to_peers s n (o ∷ os) h = (h.0, to_peers s n os h.1)
 
 pub sends : (s : Setup) (n : ℕ) (xs : List (ByteEvent WirePacket)) (st : NodeState) (clock : ℕ) (e : Event) (v : Option Packet)
-    → IsScripted s → n < node_count s → IsBookOf s n xs st clock → node_number s (node_of s e) ≡ n → is_event s e ≡ true
+    → IsScripted s → n < node_count s → IsLogOf s n xs st clock → node_number s (node_of s e) ≡ n → is_event s e ≡ true
     → is_input s (node_of s e) (takes_from st e) v ≡ true → AllToPeers s (node_of s e) (acts s st e v).sent
 sends s n xs st clock e v scripted lt b here range input =
     let role : Role s n st = subst (Role s n) (sym b.state) (replays_role s n (opening_state s n) 0 b.said (opening_role s n scripted lt) b.replay) in

@@ -3,10 +3,9 @@ use Rattle.std.proofs.Common.{◌≡◌, ℕ, zero, suc, ◌+◌, ◌*◌, ◌/�
 use Rattle.std.specs.Prelude.{Option, Some, None, IfSome, if◌then◌else◌, slice_get, slice_index_or, nat_lt, ◌&&◌}
 use Rattle.std.specs.Option.{option_map}
 use Rattle.std.specs.Str.{bytes_eq}
-use Rattle.std.proofs.Math.Nat.{div-div-eq-div-mul, div-one, pow-suc}
+use Rattle.std.proofs.Math.Nat.{div-one, pow-suc}
 use Rattle.std.proofs.lemmas.Bool.{eqb-true, eqb-false, ltb-true}
 use Rattle.std.proofs.lemmas.Nat.{div_below}
-use Rattle.std.proofs.lemmas.Slice.Eq.{bytes_eq-Decides}
 use Rattle.geo_base.specs.declared.entry.Content.{Content}
 use Rattle.geo_base.specs.declared.entry.Content.TheVariants as content
 use Rattle.geo_base.specs.declared.entry.Entry.{Entry}
@@ -17,17 +16,19 @@ use Rattle.geo_base.specs.declared.frame.Frame.TheVariants as frame
 use Rattle.geo_base.specs.declared.marker.ClusterPosition.{ClusterPosition}
 use Rattle.geo_base.specs.declared.marker.Marker.{Marker}
 use Rattle.geo_base.specs.declared.marker.Marker.TheVariants as marker
-use Rattle.geo_base.specs.declared.marker.Place.{Place}
-use Rattle.geo_base.specs.declared.marker.Place.TheVariants as place
+use Rattle.geo_base.specs.declared.marker.ClusterRef.{ClusterRef}
+use Rattle.geo_base.specs.declared.marker.ClusterRef.TheVariants as cluster_ref
 use Rattle.geo_base.specs.declared.position.Position.{Position}
 use Rattle.geo_base.specs.Client.{target_names}
 use Rattle.geo_base.specs.Entry.{goes_to}
 use Rattle.geo_base.specs.Scripted.{AreDistinct, names_some}
-use Rattle.geo_base.specs.Sizes.{place_name}
+use Rattle.geo_base.specs.Sizes.{cluster_ref_name}
 use Rattle.marker_codec.specs.Machine.{named_cluster, named_marker}
 use Rattle.world_laws.specs.Plain.{AreClusters, HasClusters, IsCluster, IsPlain, IsPlainContent, IsPlainEntry}
 use Rattle.frame_values.specs.Told.{IsTold, IsToldContent, IsToldEntry}
 use Rattle.frame_values.specs.Values.{bits_of, lists, no_marker, place_from, place_of, placed_cluster, placed_marker, targets_of}
+use Rattle.geo_base.proofs.Lists.{bytes_eq_back, bytes_eq_itself}
+use Rattle.geo_base.proofs.Sums.{half_power}
 
 -- ---- names that are told apart
 
@@ -42,33 +43,23 @@ others_distinct n ns d i j a b lt ga gb = d (suc i) (suc j) a b (omega arith) ga
 first_other : (n : List ℕ) (ns : List (List ℕ)) → AreDistinct (n ∷ ns) → (x : ℕ) → x < length ns → bytes_eq n (slice_index_or ns x []) ≡ false
 first_other n ns d x lt = d zero (suc x) n (slice_index_or ns x []) (omega arith) refl (get_at ns x lt)
 
-same_bytes : (n : List ℕ) → bytes_eq n n ≡ true
-same_bytes n = (bytes_eq-Decides n n).1 refl
-
-other_way : (a b : List ℕ) → bytes_eq a b ≡ false → bytes_eq b a ≡ false
-other_way a b h = by (bytes_eq b a) refl
-  where
-    by : (t : Bool) → bytes_eq b a ≡ t → bytes_eq b a ≡ false
-    by true e = absurd (let k : true ≡ false = sym ((bytes_eq-Decides a b).1 (sym ((bytes_eq-Decides b a).0 e))) ∙ h in cc)
-    by false e = e
-
 -- ---- places
 
-place_at : (k : ℕ) (ns : List (List ℕ)) (x : ℕ) → x < length ns → AreDistinct ns → place_from k ns (slice_index_or ns x []) ≡ place.Known (k + x)
+place_at : (k : ℕ) (ns : List (List ℕ)) (x : ℕ) → x < length ns → AreDistinct ns → place_from k ns (slice_index_or ns x []) ≡ cluster_ref.Known (k + x)
 place_at k [] x lt d = absurd (omega arith)
-place_at k (n ∷ ns) zero lt d = rw (same_bytes n) (ap place.Known (omega arith))
+place_at k (n ∷ ns) zero lt d = rw (bytes_eq_itself n) (ap cluster_ref.Known (omega arith))
 place_at k (n ∷ ns) (suc x) lt d =
-    rw (first_other n ns d x (omega arith)) (place_at (k + 1) ns x (omega arith) (others_distinct n ns d) ∙ ap place.Known (omega arith))
+    rw (first_other n ns d x (omega arith)) (place_at (k + 1) ns x (omega arith) (others_distinct n ns d) ∙ ap cluster_ref.Known (omega arith))
 
-place_told : (names : List (List ℕ)) (p : Place) → AreDistinct names → IsCluster names p → place_of names (place_name names p) ≡ p
-place_told names (place.Known x) d lt = place_at 0 names x lt d ∙ ap place.Known (omega arith)
-place_told names (place.Stranger n) d lt = absurd lt
+place_told : (names : List (List ℕ)) (p : ClusterRef) → AreDistinct names → IsCluster names p → place_of names (cluster_ref_name names p) ≡ p
+place_told names (cluster_ref.Known x) d lt = place_at 0 names x lt d ∙ ap cluster_ref.Known (omega arith)
+place_told names (cluster_ref.Stranger n) d lt = absurd lt
 
-pub source_told : (names : List (List ℕ)) (o : Option Place) → AreDistinct names → IfSome o (IsCluster names) → o ≡ option_map (place_of names) (option_map (place_name names) o)
+pub source_told : (names : List (List ℕ)) (o : Option ClusterRef) → AreDistinct names → IfSome o (IsCluster names) → o ≡ option_map (place_of names) (option_map (cluster_ref_name names) o)
 source_told names None d h = refl
-source_told names (Some p) d h = ap (λ (q : Place). Some q) (sym (place_told names p d h))
+source_told names (Some p) d h = ap (λ (q : ClusterRef). Some q) (sym (place_told names p d h))
 
-abbrev at_place : Position → Place → ClusterPosition
+abbrev at_place : Position → ClusterRef → ClusterPosition
 at_place p c = record { cluster = c; position = p }
 
 cluster_told : (names : List (List ℕ)) (r : ClusterPosition) → AreDistinct names → IsCluster names r.cluster → placed_cluster names (named_cluster names r) ≡ r
@@ -82,7 +73,7 @@ clusters_told names (r ∷ rs) d h = both (cluster_told names r d h.0) (clusters
     both e f = cc
 
 marker_told : (names : List (List ℕ)) (m : Marker) → AreDistinct names → HasClusters names m → placed_marker names (named_marker names m) ≡ m
-marker_told names (marker.Request id source) d h = ap (λ (p : Place). marker.Request id p) (place_told names source d h)
+marker_told names (marker.Request id source) d h = ap (λ (p : ClusterRef). marker.Request id p) (place_told names source d h)
 marker_told names (marker.Response id answer) d h = ap (λ (r : ClusterPosition). marker.Response id r) (cluster_told names answer d h)
 marker_told names (marker.Snapshot id local remote) d h = ap (λ (rs : List ClusterPosition). marker.Snapshot id local rs) (clusters_told names remote d h)
 marker_told names (marker.Update sub remote) d h = ap (λ (rs : List ClusterPosition). marker.Update sub rs) (clusters_told names remote d h)
@@ -118,23 +109,18 @@ bits_more : (k bits : ℕ) (n : List ℕ) (ns : List (List ℕ)) → AreDistinct
     → bits_of (n ∷ ns) (if t then n ∷ target_names (k + 1) (targets.Only bits) ns else target_names (k + 1) (targets.Only bits) ns) ≡ bits / 2 ^ k
 bits_more k bits n ns d rest true e =
     let odd : (bits / 2 ^ k) % 2 ≡ 1 = eqb-true ((bits / 2 ^ k) % 2) 1 e in
-    rw (same_bytes n, bits_without n (target_names (k + 1) (targets.Only bits) ns) ns (first_other n ns d)) (omega (arith, rest, odd))
+    rw (bytes_eq_itself n, bits_without n (target_names (k + 1) (targets.Only bits) ns) ns (first_other n ns d)) (omega (arith, rest, odd))
 bits_more k bits n ns d rest false e =
     let even : (bits / 2 ^ k) % 2 ≡ 1 → ⊥ = eqb-false ((bits / 2 ^ k) % 2) 1 e in
-    rw (not_listed (k + 1) bits ns n (λ x lt. other_way n (slice_index_or ns x []) (first_other n ns d x lt))) (omega (arith, rest, even))
-
-half : (k bits : ℕ) → bits / 2 ^ (k + 1) ≡ (bits / 2 ^ k) / 2
-half k bits =
-    let more : k + 1 ≡ suc k = omega arith in
-    ap (λ (j : ℕ). bits / 2 ^ j) more ∙ ap (λ (j : ℕ). bits / j) (pow-suc 2 k) ∙ sym (div-div-eq-div-mul bits (2 ^ k) 2)
+    rw (not_listed (k + 1) bits ns n (λ x lt. bytes_eq_back n (slice_index_or ns x []) (first_other n ns d x lt))) (omega (arith, rest, even))
 
 bits_told : (k bits : ℕ) (ns : List (List ℕ)) → AreDistinct ns → bits / 2 ^ k < 2 ^ length ns → bits_of ns (target_names k (targets.Only bits) ns) ≡ bits / 2 ^ k
 bits_told k bits [] d lt = omega (arith, lt)
 bits_told k bits (n ∷ ns) d lt =
     let wide : 2 ^ length (n ∷ ns) ≡ 2 ^ length ns * 2 = pow-suc 2 (length ns) in
     let fits : (bits / 2 ^ k) / 2 < 2 ^ length ns = div_below (bits / 2 ^ k) 2 (2 ^ length ns) (omega arith) (omega (arith, lt, wide)) in
-    let below : bits / 2 ^ (k + 1) < 2 ^ length ns = omega (arith, half k bits, fits) in
-    bits_more k bits n ns d (bits_told (k + 1) bits ns (others_distinct n ns d) below ∙ half k bits) (goes_to k (targets.Only bits)) refl
+    let below : bits / 2 ^ (k + 1) < 2 ^ length ns = omega (arith, half_power k bits, fits) in
+    bits_more k bits n ns d (bits_told (k + 1) bits ns (others_distinct n ns d) below ∙ half_power k bits) (goes_to k (targets.Only bits)) refl
 
 no_bits : (ns : List (List ℕ)) → bits_of ns [] ≡ 0
 no_bits [] = refl
@@ -163,7 +149,7 @@ targets_told names (targets.Only bits) d h = by (target_names 0 (targets.Only bi
 
 -- ---- entries and frames
 
-pub entry_told : (names : List (List ℕ)) (source : Option Place) (e : Entry) → AreDistinct names → IsPlainEntry names source e → IsToldEntry names source e
+pub entry_told : (names : List (List ℕ)) (source : Option ClusterRef) (e : Entry) → AreDistinct names → IsPlainEntry names source e → IsToldEntry names source e
 entry_told names source e d h = record {
   to = targets_told names e.to d h.some ∙ ap (λ (l : List (List ℕ)). targets_of names l) (sym h.listed);
   from = source_told names source d h.from;

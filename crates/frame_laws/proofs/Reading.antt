@@ -4,7 +4,7 @@ use Rattle.std.specs.Prelude.{Option, Some, None}
 use Rattle.geo_base.specs.declared.entry.Entry.{Entry}
 use Rattle.geo_base.specs.declared.frame.Frame.{Frame}
 use Rattle.geo_base.specs.declared.frame.Frame.TheVariants as frame
-use Rattle.geo_base.specs.declared.marker.Place.{Place}
+use Rattle.geo_base.specs.declared.marker.ClusterRef.{ClusterRef}
 use Rattle.geo_base.specs.Entry.{with_origin}
 use Rattle.pulsar_commands.specs.declared.command.Command.{Command}
 use Rattle.pulsar_commands.specs.declared.command.Command.TheVariants as command
@@ -14,7 +14,7 @@ use Rattle.frame_values.specs.Standing.{Reads, StandFor, bare, no_text, text as 
 use Rattle.frame_values.specs.Told.{IsToldEntry}
 use Rattle.frame_values.specs.Values.{IsEntryOf, Says, carrying, simple_frame, targets_of}
 
-entry_told : (names : List (List ℕ)) (b : Body) (source : Option Place) (e : Entry) → IsEntryOf names b source e → IsToldEntry names None e
+entry_told : (names : List (List ℕ)) (b : Body) (source : Option ClusterRef) (e : Entry) → IsEntryOf names b source e → IsToldEntry names None e
 entry_told names b source e h = record {
   to = h.to ∙ ap (λ (ns : List (List ℕ)). targets_of names ns) (sym h.listed);
   from = refl;
@@ -53,7 +53,7 @@ simple_other command.Ping h = h
 simple_other command.Pong h = h
 
 -- the entry of one that carries a message
-carried_is : (c : Command) (source : Option Place) (e : Entry) → CarriesIt e (carrying c source e)
+carried_is : (c : Command) (source : Option ClusterRef) (e : Entry) → CarriesIt e (carrying c source e)
 carried_is (command.Connect version protocol) source e = tt
 carried_is (command.Connected version protocol) source e = tt
 carried_is (command.Subscribe topic sub kind id request consumer earliest replicated) source e = tt
@@ -73,18 +73,18 @@ carried_is (command.ProducerSuccess request name) source e = tt
 carried_is command.Ping source e = tt
 carried_is command.Pong source e = tt
 
-says_told : (names : List (List ℕ)) (c : Command) (o : Option Body) (id seq : ℕ) (source : Option Place) (a : Entry) → Says names c o (frame.Send id seq source a) → IsToldEntry names None a
+says_told : (names : List (List ℕ)) (c : Command) (o : Option Body) (id seq : ℕ) (source : Option ClusterRef) (a : Entry) → Says names c o (frame.Send id seq source a) → IsToldEntry names None a
 says_told names c None id seq source a says = absurd (simple_other c (subst IsSend says tt))
 says_told names c (Some b) id seq source a says =
     let same : a ≡ says.entry = subst (CarriesIt says.entry) (sym says.is) (carried_is c says.source says.entry) in
     subst (IsToldEntry names None) (sym same) (entry_told names b says.source says.entry says.says)
 
-reads_told : (names : List (List ℕ)) (bytes : List ℕ) (id seq : ℕ) (source : Option Place) (a : Entry) → Reads names bytes (frame.Send id seq source a) → IsToldEntry names None a
+reads_told : (names : List (List ℕ)) (bytes : List ℕ) (id seq : ℕ) (source : Option ClusterRef) (a : Entry) → Reads names bytes (frame.Send id seq source a) → IsToldEntry names None a
 reads_told names bytes id seq source a (told w is says) = says_told names w.command w.body id seq source a says
 reads_told names bytes id seq source a (no_text none is) = absurd (subst IsSend is tt)
 
 -- whichever cluster it says stored the entry first
-pub stands_told : (names : List (List ℕ)) (bytes : List ℕ) (f : Frame) (id seq : ℕ) (source : Option Place) (a : Entry) → StandFor names bytes f → f ≡ frame.Send id seq source a → IsToldEntry names None a
+pub stands_told : (names : List (List ℕ)) (bytes : List ℕ) (f : Frame) (id seq : ℕ) (source : Option ClusterRef) (a : Entry) → StandFor names bytes f → f ≡ frame.Send id seq source a → IsToldEntry names None a
 stands_told names bytes f id seq source a stands is =
     let h = reads_told names bytes id seq source (with_origin 0 a) (subst (λ (g : Frame). Reads names bytes (bare g)) is stands) in
     record { to = h.to; from = refl; content = h.content }

@@ -1,4 +1,4 @@
 pub mod BytePackets
 pub mod CutOff
 pub mod Telling
-pub mod Books
+pub mod Logs

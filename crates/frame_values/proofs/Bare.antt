@@ -4,7 +4,7 @@ use Rattle.std.specs.Prelude.{Option, Some, None}
 use Rattle.geo_base.specs.declared.entry.Entry.{Entry}
 use Rattle.geo_base.specs.declared.frame.Frame.{Frame}
 use Rattle.geo_base.specs.declared.frame.Frame.TheVariants as frame
-use Rattle.geo_base.specs.declared.marker.Place.{Place}
+use Rattle.geo_base.specs.declared.marker.ClusterRef.{ClusterRef}
 use Rattle.geo_base.specs.Entry.{with_origin}
 use Rattle.pulsar_commands.specs.declared.command.Command.{Command}
 use Rattle.pulsar_commands.specs.declared.command.Command.TheVariants as command
@@ -35,7 +35,7 @@ simple_bare command.Pong = refl
 entry_bare : (e : Entry) → e.ident.origin ≡ 0 → with_origin 0 e ≡ e
 entry_bare e none = ap (λ (x : ℕ). with_origin x e) (sym none)
 
-carrying_bare : (c : Command) (source : Option Place) (e : Entry) → e.ident.origin ≡ 0 → bare (carrying c source e) ≡ carrying c source e
+carrying_bare : (c : Command) (source : Option ClusterRef) (e : Entry) → e.ident.origin ≡ 0 → bare (carrying c source e) ≡ carrying c source e
 carrying_bare (command.Connect version protocol) source e none = refl
 carrying_bare (command.Connected version protocol) source e none = refl
 carrying_bare (command.Subscribe topic sub kind id request consumer earliest replicated) source e none = refl

@@ -6,7 +6,7 @@ use Rattle.geo_base.specs.declared.entry.Content.{Content}
 use Rattle.geo_base.specs.declared.entry.Entry.{Entry}
 use Rattle.geo_base.specs.declared.frame.Frame.{Frame}
 use Rattle.geo_base.specs.declared.frame.Frame.TheVariants as frame
-use Rattle.geo_base.specs.declared.marker.Place.{Place}
+use Rattle.geo_base.specs.declared.marker.ClusterRef.{ClusterRef}
 use Rattle.message_meta.specs.Metadata.{Metadata}
 use Rattle.pb_fields.specs.Canonical.{text}
 use Rattle.pulsar_commands.specs.declared.command.Command.{Command}
@@ -32,13 +32,13 @@ pub headed_rest : (names : List (List ℕ)) (m : Metadata) (h : Head) (x : Conte
     → IsRest c.entry.meta.rest
 headed_rest names m h x kept c head is rest = rw (is, head) rest
 
-pub carries_is : (names : List (List ℕ)) (c : Command) (b : Body) (f : Frame) (source : Option Place) (e : Entry) → f ≡ carrying c source e → IsEntryOf names b source e → Carries names c b f
+pub carries_is : (names : List (List ℕ)) (c : Command) (b : Body) (f : Frame) (source : Option ClusterRef) (e : Entry) → f ≡ carrying c source e → IsEntryOf names b source e → Carries names c b f
 carries_is names c b f source e is says = record { source = source; entry = e; is = is; says = says }
 
 pub reads_is : (names : List (List ℕ)) (bytes : List ℕ) (w : WireFrame) (f : Frame) → IsFrameText bytes w → SaysValue names w f → Reads names bytes f
 reads_is names bytes w f is says = told w is says
 
-pub says_is : (names : List (List ℕ)) (c : Command) (o : Option Body) (b : Body) (f : Frame) (source : Option Place) (e : Entry) → o ≡ Some b → f ≡ carrying c source e → IsEntryOf names b source e → Says names c o f
+pub says_is : (names : List (List ℕ)) (c : Command) (o : Option Body) (b : Body) (f : Frame) (source : Option ClusterRef) (e : Entry) → o ≡ Some b → f ≡ carrying c source e → IsEntryOf names b source e → Says names c o f
 says_is names c o b f source e there is says = rw there (carries_is names c b f source e is says)
 
 pub reads_of : (names : List (List ℕ)) (bytes : List ℕ) (o : Option WireFrame) (w : WireFrame) (r : Result Frame Memory)
@@ -74,7 +74,7 @@ unreadable_is frame.Pong h = absurd cc
 unreadable_is frame.Unreadable h = refl
 
 -- what a command with an entry keeps of fields that nobody reads
-rest_of : (c : Command) (source : Option Place) (e : Entry) → IsRest e.meta.rest → IsRest (unread_bytes (carrying c source e))
+rest_of : (c : Command) (source : Option ClusterRef) (e : Entry) → IsRest e.meta.rest → IsRest (unread_bytes (carrying c source e))
 rest_of (command.Connect version protocol) source e h = no_rest
 rest_of (command.Connected version protocol) source e h = no_rest
 rest_of (command.Subscribe topic sub kind id request consumer earliest replicated) source e h = no_rest
@@ -94,5 +94,5 @@ rest_of (command.ProducerSuccess request name) source e h = no_rest
 rest_of command.Ping source e h = no_rest
 rest_of command.Pong source e h = no_rest
 
-pub carrying_rest : (c : Command) (source : Option Place) (e : Entry) (f : Frame) → f ≡ carrying c source e → IsRest e.meta.rest → IsRest (unread_bytes f)
+pub carrying_rest : (c : Command) (source : Option ClusterRef) (e : Entry) (f : Frame) → f ≡ carrying c source e → IsRest e.meta.rest → IsRest (unread_bytes f)
 carrying_rest c source e f is h = subst (λ (g : Frame). IsRest (unread_bytes g)) (sym is) (rest_of c source e h)

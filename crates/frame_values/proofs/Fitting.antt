@@ -4,10 +4,10 @@ use Rattle.std.specs.Prelude.{Option, Some, None, IfSome}
 use Rattle.geo_base.specs.declared.entry.Entry.{Entry}
 use Rattle.geo_base.specs.declared.frame.Frame.{Frame}
 use Rattle.geo_base.specs.declared.frame.Frame.TheVariants as frame
-use Rattle.geo_base.specs.declared.marker.Place.{Place}
+use Rattle.geo_base.specs.declared.marker.ClusterRef.{ClusterRef}
 use Rattle.geo_base.specs.declared.position.Position.{Position}
 use Rattle.geo_base.specs.FrameSizes.{body_size, frame_size, framed, repeated_position, source_size}
-use Rattle.geo_base.specs.Sizes.{bytes_field, number_field, optional_text, place_name, position_size, tag_size, text_field, varint_size}
+use Rattle.geo_base.specs.Sizes.{bytes_field, number_field, optional_text, cluster_ref_name, position_size, tag_size, text_field, varint_size}
 use Rattle.frame_values.specs.Fitting.{IsShort, IsSmall, IsSmallCarried}
 use Rattle.frame_values.proofs.Counting.{varint_most, varint_one}
 
@@ -40,11 +40,11 @@ ids_most : (ps : List Position) → repeated_position 3 ps ≤ 24 * length ps
 ids_most [] = omega arith
 ids_most (p ∷ ps) = omega (arith, id_most p, ids_most ps)
 
-source_most : (names : List (List ℕ)) (o : Option Place) → IfSome o (λ p. IsShort (place_name names p)) → source_size names o ≤ 1044
+source_most : (names : List (List ℕ)) (o : Option ClusterRef) → IfSome o (λ p. IsShort (cluster_ref_name names p)) → source_size names o ≤ 1044
 source_most names None h = omega arith
-source_most names (Some p) h = omega (arith, bytes_most 5 (length (place_name names p)), h)
+source_most names (Some p) h = omega (arith, bytes_most 5 (length (cluster_ref_name names p)), h)
 
-carried_most : (names : List (List ℕ)) (source : Option Place) (e : Entry) → IsSmallCarried names source e → body_size names source e ≤ 5243928
+carried_most : (names : List (List ℕ)) (source : Option ClusterRef) (e : Entry) → IsSmallCarried names source e → body_size names source e ≤ 5243928
 carried_most names source e h = omega (arith, h.entry, source_most names source h.from)
 
 pub fits : (names : List (List ℕ)) (f : Frame) → IsSmall names f → frame_size names f ≤ 5253124

@@ -6,8 +6,8 @@ use Rattle.std.proofs.lemmas.Slice.Eq.{bytes_eq-Decides}
 use Rattle.geo_base.specs.declared.entry.Content.{Content}
 use Rattle.geo_base.specs.declared.entry.Content.TheVariants as content
 use Rattle.geo_base.specs.declared.marker.ClusterPosition.{ClusterPosition}
-use Rattle.geo_base.specs.declared.marker.Place.TheVariants as place
-use Rattle.geo_base.specs.Sizes.{marker_type, place_name}
+use Rattle.geo_base.specs.declared.marker.ClusterRef.TheVariants as cluster_ref
+use Rattle.geo_base.specs.Sizes.{marker_type, cluster_ref_name}
 use Rattle.marker_codec.specs.declared.marker.ClusterMessageId.{ClusterMessageId}
 use Rattle.marker_codec.specs.declared.marker.Marker.{Marker}
 use Rattle.marker_codec.specs.declared.marker.Marker.TheVariants as marker
@@ -21,20 +21,20 @@ use Rattle.frame_values.specs.Values.{IsContent, canonical, foreign, no_marker, 
 -- ---- names and places
 
 -- a name's place has that name
-name_from : (all ms : List (List ℕ)) (j : ℕ) (n : List ℕ) → ((i : ℕ) → i < length ms → slice_index_or all (j + i) [] ≡ slice_index_or ms i []) → place_name all (place_from j ms n) ≡ n
+name_from : (all ms : List (List ℕ)) (j : ℕ) (n : List ℕ) → ((i : ℕ) → i < length ms → slice_index_or all (j + i) [] ≡ slice_index_or ms i []) → cluster_ref_name all (place_from j ms n) ≡ n
 name_from all [] j n h = refl
 name_from all (m ∷ ms) j n h = by (bytes_eq m n) refl (name_from all ms (j + 1) n (λ i lt. rest i lt))
   where
     rest : (i : ℕ) → i < length ms → slice_index_or all (j + 1 + i) [] ≡ slice_index_or ms i []
     rest i lt = let next : j + 1 + i ≡ j + suc i = omega arith in ap (λ (k : ℕ). slice_index_or all k []) next ∙ h (suc i) (omega (arith, lt))
 
-    by : (b : Bool) → bytes_eq m n ≡ b → place_name all (place_from (j + 1) ms n) ≡ n → place_name all (if b then place.Known j else place_from (j + 1) ms n) ≡ n
+    by : (b : Bool) → bytes_eq m n ≡ b → cluster_ref_name all (place_from (j + 1) ms n) ≡ n → cluster_ref_name all (if b then cluster_ref.Known j else place_from (j + 1) ms n) ≡ n
     by true is later =
         let here : j ≡ j + 0 = omega arith in
         ap (λ (k : ℕ). slice_index_or all k []) here ∙ h 0 (omega arith) ∙ (bytes_eq-Decides m n).0 is
     by false is later = later
 
-pub name_again : (names : List (List ℕ)) (n : List ℕ) → place_name names (place_of names n) ≡ n
+pub name_again : (names : List (List ℕ)) (n : List ℕ) → cluster_ref_name names (place_of names n) ≡ n
 name_again names n = name_from names names 0 n (λ i lt. ap (λ (k : ℕ). slice_index_or names k []) (omega arith))
 
 abbrev id_with : List ℕ → ClusterMessageId → ClusterMessageId

@@ -7,7 +7,7 @@ use Rattle.geo_base.specs.declared.entry.Entry.{Entry}
 use Rattle.geo_base.specs.declared.entry.Targets.{Targets}
 use Rattle.geo_base.specs.declared.frame.Frame.{Frame}
 use Rattle.geo_base.specs.declared.frame.Frame.TheVariants as frame
-use Rattle.geo_base.specs.declared.marker.Place.{Place}
+use Rattle.geo_base.specs.declared.marker.ClusterRef.{ClusterRef}
 use Rattle.geo_base.specs.Entry.{with_origin}
 use Rattle.marker_codec.specs.declared.marker.Marker.{Marker}
 use Rattle.marker_codec.specs.Canonical.{canonical_fields}
@@ -26,14 +26,9 @@ use Rattle.frame_values.specs.Standing.{Reads, text as told, no_text, StandFor, 
 use Rattle.frame_values.specs.Texts.{body_of, marker_number, payload_text, unread_bytes, wire_frame}
 use Rattle.frame_values.specs.Told.{IsTold, IsToldContent, IsToldEntry}
 use Rattle.frame_values.specs.Values.{IsContent, no_marker, canonical, foreign, unread, IsEntryOf, Says, SaysValue, carrying, placed_marker}
+use Rattle.geo_base.proofs.Results.{none_not_some, some_number}
 
 -- ---- one value
-
-other : {k : ℕ} → ◌≡◌ {A = Option ℕ} None (Some k) → ⊥
-other e = cc
-
-number_one : (j k : ℕ) → ◌≡◌ {A = Option ℕ} (Some j) (Some k) → j ≡ k
-number_one j k e = cc
 
 same_marker : (payload : List ℕ) (j k : ℕ) (m n : Marker) → j ≡ k → IsMarkerText j payload m → IsMarkerText k payload n → m ≡ n
 same_marker payload j k m n e h i = marker_one k payload m n (subst (λ (x : ℕ). IsMarkerText x payload m) e h) i
@@ -42,25 +37,25 @@ same_marker payload j k m n e h i = marker_one k payload m n (subst (λ (x : ℕ
 both_same : {names : List (List ℕ)} {number : Option ℕ} {payload : List ℕ} {c d : Content} {p q : List ℕ}
     → IsContent names number payload c p → IsContent names number payload d q → (c ≡ d) × (p ≡ q)
 both_same (no_marker n c p) (no_marker n' d q) = (c ∙ sym d, p ∙ sym q)
-both_same (no_marker n c p) (unread k n' not d q) = absurd (other (sym n ∙ n'))
-both_same (no_marker n c p) (canonical k m n' is t d q) = absurd (other (sym n ∙ n'))
-both_same (no_marker n c p) (foreign k m n' is t d q) = absurd (other (sym n ∙ n'))
-both_same (unread j n not c p) (no_marker n' d q) = absurd (other (sym n' ∙ n))
-both_same (unread j n not c p) (unread k n' not' d q) = (c ∙ ap content.Unread (number_one j k (sym n ∙ n')) ∙ sym d, p ∙ sym q)
-both_same {payload = payload} (unread j n not c p) (canonical k m n' is t d q) = absurd (not m (subst (λ (x : ℕ). IsMarkerText x payload m) (number_one k j (sym n' ∙ n)) is))
-both_same {payload = payload} (unread j n not c p) (foreign k m n' is t d q) = absurd (not m (subst (λ (x : ℕ). IsMarkerText x payload m) (number_one k j (sym n' ∙ n)) is))
-both_same (canonical j m n is t c p) (no_marker n' d q) = absurd (other (sym n' ∙ n))
-both_same {payload = payload} (canonical j m n is t c p) (unread k n' not d q) = absurd (not m (subst (λ (x : ℕ). IsMarkerText x payload m) (number_one j k (sym n ∙ n')) is))
+both_same (no_marker n c p) (unread k n' not d q) = absurd (none_not_some (sym n ∙ n'))
+both_same (no_marker n c p) (canonical k m n' is t d q) = absurd (none_not_some (sym n ∙ n'))
+both_same (no_marker n c p) (foreign k m n' is t d q) = absurd (none_not_some (sym n ∙ n'))
+both_same (unread j n not c p) (no_marker n' d q) = absurd (none_not_some (sym n' ∙ n))
+both_same (unread j n not c p) (unread k n' not' d q) = (c ∙ ap content.Unread (some_number j k (sym n ∙ n')) ∙ sym d, p ∙ sym q)
+both_same {payload = payload} (unread j n not c p) (canonical k m n' is t d q) = absurd (not m (subst (λ (x : ℕ). IsMarkerText x payload m) (some_number k j (sym n' ∙ n)) is))
+both_same {payload = payload} (unread j n not c p) (foreign k m n' is t d q) = absurd (not m (subst (λ (x : ℕ). IsMarkerText x payload m) (some_number k j (sym n' ∙ n)) is))
+both_same (canonical j m n is t c p) (no_marker n' d q) = absurd (none_not_some (sym n' ∙ n))
+both_same {payload = payload} (canonical j m n is t c p) (unread k n' not d q) = absurd (not m (subst (λ (x : ℕ). IsMarkerText x payload m) (some_number j k (sym n ∙ n')) is))
 both_same {names = names} {payload = payload} (canonical j m n is t c p) (canonical k m' n' is' t' d q) =
-    (c ∙ ap (λ (x : Marker). content.Marked (placed_marker names x)) (same_marker payload j k m m' (number_one j k (sym n ∙ n')) is is') ∙ sym d, p ∙ sym q)
+    (c ∙ ap (λ (x : Marker). content.Marked (placed_marker names x)) (same_marker payload j k m m' (some_number j k (sym n ∙ n')) is is') ∙ sym d, p ∙ sym q)
 both_same {payload = payload} (canonical j m n is t c p) (foreign k m' n' is' t' d q) =
-    absurd (t' (t ∙ ap (λ (x : Marker). text (canonical_fields x)) (same_marker payload j k m m' (number_one j k (sym n ∙ n')) is is')))
-both_same (foreign j m n is t c p) (no_marker n' d q) = absurd (other (sym n' ∙ n))
-both_same {payload = payload} (foreign j m n is t c p) (unread k n' not d q) = absurd (not m (subst (λ (x : ℕ). IsMarkerText x payload m) (number_one j k (sym n ∙ n')) is))
+    absurd (t' (t ∙ ap (λ (x : Marker). text (canonical_fields x)) (same_marker payload j k m m' (some_number j k (sym n ∙ n')) is is')))
+both_same (foreign j m n is t c p) (no_marker n' d q) = absurd (none_not_some (sym n' ∙ n))
+both_same {payload = payload} (foreign j m n is t c p) (unread k n' not d q) = absurd (not m (subst (λ (x : ℕ). IsMarkerText x payload m) (some_number j k (sym n ∙ n')) is))
 both_same {payload = payload} (foreign j m n is t c p) (canonical k m' n' is' t' d q) =
-    absurd (t (t' ∙ ap (λ (x : Marker). text (canonical_fields x)) (same_marker payload k j m' m (number_one k j (sym n' ∙ n)) is' is)))
+    absurd (t (t' ∙ ap (λ (x : Marker). text (canonical_fields x)) (same_marker payload k j m' m (some_number k j (sym n' ∙ n)) is' is)))
 both_same {names = names} {payload = payload} (foreign j m n is t c p) (foreign k m' n' is' t' d q) =
-    (c ∙ ap (λ (x : Marker). content.Marked (placed_marker names x)) (same_marker payload j k m m' (number_one j k (sym n ∙ n')) is is') ∙ sym d, p ∙ sym q)
+    (c ∙ ap (λ (x : Marker). content.Marked (placed_marker names x)) (same_marker payload j k m m' (some_number j k (sym n ∙ n')) is is') ∙ sym d, p ∙ sym q)
 
 -- an entry by its parts
 abbrev entry_by : ℕ → List ℕ → ℕ → Content → Targets → ℕ → Option (List ℕ) → List (List ℕ) → List ℕ → List ℕ → Entry
@@ -76,12 +71,12 @@ all_same : {o o' : ℕ} {p p' : List ℕ} {s s' : ℕ} {c c' : Content} {to to' 
     → o ≡ o' → p ≡ p' → s ≡ s' → c ≡ c' → to ≡ to' → t ≡ t' → k ≡ k' → n ≡ n' → r ≡ r' → y ≡ y' → entry_by o p s c to t k n r y ≡ entry_by o' p' s' c' to' t' k' n' r' y'
 all_same a b c d e f g h i j = rw (a, b, c, d, e, f, g, h, i, j) refl
 
-entry_one : (names : List (List ℕ)) (b : Body) (s r : Option Place) (e f : Entry) → IsEntryOf names b s e → IsEntryOf names b r f → e ≡ f
+entry_one : (names : List (List ℕ)) (b : Body) (s r : Option ClusterRef) (e f : Entry) → IsEntryOf names b s e → IsEntryOf names b r f → e ≡ f
 entry_one names b s r e f h k =
     let c = both_same h.content k.content in
     all_same (h.origin ∙ sym k.origin) (h.producer ∙ sym k.producer) (h.seq ∙ sym k.seq) c.0 (h.to ∙ sym k.to) (h.publish_time ∙ sym k.publish_time) (h.key ∙ sym k.key) (h.listed ∙ sym k.listed) (h.rest ∙ sym k.rest) c.1
 
-carried_same : (c : Command) (s r : Option Place) (e f : Entry) → s ≡ r → e ≡ f → carrying c s e ≡ carrying c r f
+carried_same : (c : Command) (s r : Option ClusterRef) (e f : Entry) → s ≡ r → e ≡ f → carrying c s e ≡ carrying c r f
 carried_same c s r e f a b = rw (a, b) refl
 
 says_one : (names : List (List ℕ)) (c : Command) (o : Option Body) (f g : Frame) → Says names c o f → Says names c o g → f ≡ g
@@ -105,7 +100,7 @@ content_said names (content.Unread k) payload right h = h
 content_said names (content.Marked m) [] right h = canonical (marker_type m) (named_marker names m) refl right refl (ap content.Marked (sym h)) refl
 content_said names (content.Marked m) (b ∷ bs) right h = h
 
-entry_said : (names : List (List ℕ)) (source : Option Place) (e : Entry) (rest : List Field) → e.meta.rest ≡ text rest → IsMarkerRight names e.content e.payload → IsToldEntry names source e
+entry_said : (names : List (List ℕ)) (source : Option ClusterRef) (e : Entry) (rest : List Field) → e.meta.rest ≡ text rest → IsMarkerRight names e.content e.payload → IsToldEntry names source e
     → IsEntryOf names (body_of names source e rest) source (with_origin 0 e)
 entry_said names source e rest kept right h = record {
   origin = refl;

@@ -25,8 +25,8 @@ use Rattle.std.specs.Option.{option_map}
 use Rattle.geo_base.specs.declared.entry.Content.{Content}
 use Rattle.geo_base.specs.declared.entry.Content.TheVariants as content
 use Rattle.geo_base.specs.declared.entry.Entry.{Entry}
-use Rattle.geo_base.specs.declared.marker.Place.{Place}
-use Rattle.geo_base.specs.Sizes.{marker_type, marker_type_size, metadata_size, optional_text, payload_size, place_name, repeated_text, text_field}
+use Rattle.geo_base.specs.declared.marker.ClusterRef.{ClusterRef}
+use Rattle.geo_base.specs.Sizes.{marker_type, marker_type_size, metadata_size, optional_text, payload_size, cluster_ref_name, repeated_text, text_field}
 use Rattle.geo_base.specs.FrameSizes.{body_size, framed, source_size}
 use Rattle.marker_codec.proofs.Lengths.{sizes as marker_sizes}
 use Rattle.message_meta.specs.Canonical.{canonical_fields, optional_fields, required_fields}
@@ -178,9 +178,9 @@ optional_size : (n : ℕ) (o : Option (List ℕ)) → fields_size (optional (byt
 optional_size n None = refl
 optional_size n (Some t) = add-zero (text_field n t)
 
-from_size : (names : List (List ℕ)) (o : Option Place) → fields_size (optional (bytes_field 5) (option_map (place_name names) o)) ≡ source_size names o
+from_size : (names : List (List ℕ)) (o : Option ClusterRef) → fields_size (optional (bytes_field 5) (option_map (cluster_ref_name names) o)) ≡ source_size names o
 from_size names None = refl
-from_size names (Some p) = add-zero (text_field 5 (place_name names p))
+from_size names (Some p) = add-zero (text_field 5 (cluster_ref_name names p))
 
 listed_size : (ts : List (List ℕ)) → fields_size (map (bytes_field 7) ts) ≡ repeated_text 7 ts
 listed_size [] = refl
@@ -197,7 +197,7 @@ payload_length names (content.Unread k) bs = refl
 payload_length names (content.Marked m) [] = marker_sizes names m
 payload_length names (content.Marked m) (b ∷ bs) = refl
 
-meta_length : (names : List (List ℕ)) (source : Option Place) (e : Entry) (rest : List Field) → e.meta.rest ≡ text rest
+meta_length : (names : List (List ℕ)) (source : Option ClusterRef) (e : Entry) (rest : List Field) → e.meta.rest ≡ text rest
     → length (text (canonical_fields (metadata_of names source e rest))) ≡ source_size names source + metadata_size e
 meta_length names source e rest kept =
     let m : Metadata = metadata_of names source e rest in
@@ -205,7 +205,7 @@ meta_length names source e rest kept =
     let unread : length e.meta.rest ≡ fields_size rest = ap (λ (bs : List ℕ). length bs) kept ∙ length-text rest in
     let a : fields_size (canonical_fields m) ≡ fields_size (required_fields m) + (fields_size (optional_fields m) + fields_size rest) = fields_append (required_fields m) (optional_fields m ++ rest) ∙ ap (λ (n : ℕ). fields_size (required_fields m) + n) (fields_append (optional_fields m) rest) in
     let b : fields_size (optional_fields m) ≡ source_size names source + (optional_text 6 e.meta.key + (repeated_text 7 e.meta.names + marker_type_size e.content)) =
-    fields_append (optional (bytes_field 5) (option_map (place_name names) source)) (optional (bytes_field 6) e.meta.key ++ (map (bytes_field 7) e.meta.names ++ optional (varint_field 20) (marker_number e.content)))
+    fields_append (optional (bytes_field 5) (option_map (cluster_ref_name names) source)) (optional (bytes_field 6) e.meta.key ++ (map (bytes_field 7) e.meta.names ++ optional (varint_field 20) (marker_number e.content)))
     ∙ rw (from_size names source, fields_append (optional (bytes_field 6) e.meta.key) (map (bytes_field 7) e.meta.names ++ optional (varint_field 20) (marker_number e.content)), optional_size 6 e.meta.key, fields_append (map (bytes_field 7) e.meta.names) (optional (varint_field 20) (marker_number e.content)), listed_size e.meta.names, type_size e.content) refl in
     omega (arith, all, unread, a, b)
 
@@ -219,7 +219,7 @@ length-carried c b k len kind one size =
     let meta : List ℕ = text (canonical_fields b.meta) in
     omega (arith, length-sized (content_text (canonical_layout w)), content_length (canonical_layout w), named, one, length-append (sized meta) b.payload, length-sized meta)
 
-carried_length : (names : List (List ℕ)) (source : Option Place) (e : Entry) (rest : List Field) (c : Command) (k len : ℕ) → e.meta.rest ≡ text rest
+carried_length : (names : List (List ℕ)) (source : Option ClusterRef) (e : Entry) (rest : List Field) (c : Command) (k len : ℕ) → e.meta.rest ≡ text rest
     → kind_number (kind_of c) ≡ k → varint_size k ≡ 1 → fields_size (flat_map part_fields (parts c)) ≡ len
     → length (frame_text (record { command = c; body = Some (body_of names source e rest) })) ≡ framed k len (body_size names source e)
 carried_length names source e rest c k len kept kind one size =

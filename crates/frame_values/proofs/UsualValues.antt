@@ -11,10 +11,10 @@ use Rattle.geo_base.specs.declared.entry.Content.TheVariants as content
 use Rattle.geo_base.specs.declared.entry.Entry.{Entry}
 use Rattle.geo_base.specs.declared.frame.Frame.{Frame}
 use Rattle.geo_base.specs.declared.frame.Frame.TheVariants as frame
-use Rattle.geo_base.specs.declared.marker.Place.{Place}
+use Rattle.geo_base.specs.declared.marker.ClusterRef.{ClusterRef}
 use Rattle.geo_base.specs.declared.memory.Memory.{Memory}
 use Rattle.geo_base.specs.declared.position.Position.{Position}
-use Rattle.geo_base.specs.Sizes.{place_name}
+use Rattle.geo_base.specs.Sizes.{cluster_ref_name}
 use Rattle.message_meta.specs.Known.{IsRest}
 use Rattle.message_meta.specs.Metadata.{Metadata}
 use Rattle.message_meta.specs.Usual.{meta_viewed}
@@ -48,7 +48,7 @@ viewed_answer names bytes o v r h there says =
     viewed_reads names bytes (frame_viewed v) r is says
 
 -- a command with a message, and one without
-pub viewed_carries : (names : List (List ℕ)) (v : FrameView) (m : MessageView) (f : Frame) (source : Option Place) (e : Entry) → v.message ≡ Some m → f ≡ carrying (command_viewed v.command) source e → IsEntryOf names (message_viewed m) source e → SaysValue names (frame_viewed v) f
+pub viewed_carries : (names : List (List ℕ)) (v : FrameView) (m : MessageView) (f : Frame) (source : Option ClusterRef) (e : Entry) → v.message ≡ Some m → f ≡ carrying (command_viewed v.command) source e → IsEntryOf names (message_viewed m) source e → SaysValue names (frame_viewed v) f
 viewed_carries names v m f source e some is says = says_is names (command_viewed v.command) (option_map message_viewed v.message) (message_viewed m) f source e (ap (λ (o : Option MessageView). option_map message_viewed o) some) is says
 
 pub viewed_simple : (names : List (List ℕ)) (v : FrameView) (f : Frame) → v.message ≡ None → f ≡ simple_frame (command_viewed v.command) → SaysValue names (frame_viewed v) f
@@ -72,7 +72,7 @@ viewed names m = record {
   content = no_marker refl refl refl;
 }
 
-pub entry_is : (names : List (List ℕ)) (m : MessageView) (source : Option Place) (e : Entry) → source ≡ source_viewed names m → e ≡ entry_viewed 0 m → IsEntryOf names (message_viewed m) source e
+pub entry_is : (names : List (List ℕ)) (m : MessageView) (source : Option ClusterRef) (e : Entry) → source ≡ source_viewed names m → e ≡ entry_viewed 0 m → IsEntryOf names (message_viewed m) source e
 entry_is names m source e from is = rw (from, is) (viewed names m)
 
 -- it has no field that nobody reads
@@ -102,18 +102,18 @@ same_body : (m n : Metadata) (p q : List ℕ) → m ≡ n → p ≡ q → ◌≡
 same_body m n p q e1 e2 = rw (e1, e2) refl
 
 -- an entry of the usual form is the message that its parts are
-pub message_is : (names : List (List ℕ)) (source : Option Place) (e : Entry) (m : MessageView) → is_usual e ≡ true → m.meta.producer.now ≡ e.ident.producer → m.meta.seq ≡ e.ident.seq → m.meta.publish_time ≡ e.meta.publish_time
-    → option_copied m.meta.replicated_from ≡ option_map (place_name names) source → option_copied m.meta.key ≡ e.meta.key → m.payload.now ≡ e.payload → message_viewed m ≡ body_of names source e []
+pub message_is : (names : List (List ℕ)) (source : Option ClusterRef) (e : Entry) (m : MessageView) → is_usual e ≡ true → m.meta.producer.now ≡ e.ident.producer → m.meta.seq ≡ e.ident.seq → m.meta.publish_time ≡ e.meta.publish_time
+    → option_copied m.meta.replicated_from ≡ option_map (cluster_ref_name names) source → option_copied m.meta.key ≡ e.meta.key → m.payload.now ≡ e.payload → message_viewed m ≡ body_of names source e []
 message_is names source e m usual producer seq time from key payload =
     let h : IsUsualEntry e.content e.meta.names e.meta.rest = usual_parts e.content e.meta.names e.meta.rest usual in
     let number : marker_number e.content ≡ None = ap (λ (c : Content). marker_number c) h.message in
     let kept : payload_text names e.content e.payload ≡ e.payload = ap (λ (c : Content). payload_text names c e.payload) h.message in
     same_body (meta_viewed m.meta) (metadata_of names source e []) m.payload.now (payload_text names e.content e.payload)
-    (same_meta m.meta.producer.now e.ident.producer m.meta.seq e.ident.seq m.meta.publish_time e.meta.publish_time (option_copied m.meta.replicated_from) (option_map (place_name names) source) (option_copied m.meta.key) e.meta.key [] e.meta.names None (marker_number e.content) producer seq time from key (sym h.listed) (sym number))
+    (same_meta m.meta.producer.now e.ident.producer m.meta.seq e.ident.seq m.meta.publish_time e.meta.publish_time (option_copied m.meta.replicated_from) (option_map (cluster_ref_name names) source) (option_copied m.meta.key) e.meta.key [] e.meta.names None (marker_number e.content) producer seq time from key (sym h.listed) (sym number))
     (payload ∙ sym kept)
 
 -- the frame that is written is that of the entry
-pub carried_is : (names : List (List ℕ)) (v : CommandView) (source : Option Place) (e : Entry) (m : MessageView) (o : Option (List ℕ)) → is_usual e ≡ true → message_viewed m ≡ body_of names source e [] → IfSome o (IsUsualText (carrying_viewed v m))
+pub carried_is : (names : List (List ℕ)) (v : CommandView) (source : Option ClusterRef) (e : Entry) (m : MessageView) (o : Option (List ℕ)) → is_usual e ≡ true → message_viewed m ≡ body_of names source e [] → IfSome o (IsUsualText (carrying_viewed v m))
     → IfSome o (IsCarriedText names (command_viewed v) source e)
 carried_is names v source e m o usual same h = IfSome_then o h (λ bytes text. carried bytes (subst (λ (b : Body). IsUsualText (record { command = command_viewed v; body = Some b }) bytes) same text))
   where

@@ -1,13 +1,12 @@
 -- What the code writes is the text of the frame.
 use Rattle.std.proofs.Common.{◌≡◌, ◌≢◌, ℕ, ◌-◌, List, [], ◌∷◌, true, false, refl, sym, ap, subst, ◌∙◌, arith, length, ◌==◌}
 use Rattle.std.specs.Prelude.{Option, Some, None, Result, Ok, Err, IfOk, IfErr}
-use Rattle.std.proofs.lemmas.Bool.{eqb-true}
 use Rattle.geo_base.specs.declared.entry.Content.TheVariants as content
 use Rattle.geo_base.specs.declared.entry.Entry.{Entry}
 use Rattle.geo_base.specs.declared.frame.Frame.{Frame}
 use Rattle.geo_base.specs.declared.frame.Frame.TheVariants as frame
 use Rattle.geo_base.specs.FrameSizes.{frame_size}
-use Rattle.geo_base.specs.declared.marker.Place.{Place}
+use Rattle.geo_base.specs.declared.marker.ClusterRef.{ClusterRef}
 use Rattle.geo_base.specs.declared.position.Position.{Position}
 use Rattle.geo_base.specs.declared.marker.Marker.{Marker as MachineMarker}
 use Rattle.geo_base.specs.declared.marker.Marker.TheVariants as machine
@@ -35,6 +34,7 @@ use Rattle.pulsar_frames.proofs.Layouts.{length-sized}
 use Rattle.frame_values.specs.Coded.{IsCarriedFault, IsCarriedText, IsEntryRight, IsMarkerRight, IsWritable, IsWritten, carried_frame, carries_entry}
 use Rattle.frame_values.specs.Texts.{carried, command_of, is_readable, metadata_of, payload_text, unread_bytes, wire_frame}
 use Rattle.frame_values.proofs.Sized.{frame_length}
+use Rattle.geo_base.proofs.Lists.{empty_by_length}
 
 -- ---- a frame is complete
 
@@ -64,7 +64,7 @@ complete names rest frame.Unreadable = refl
 same_frame : (c : Command) (m n : Metadata) (p q : List ℕ) → m ≡ n → p ≡ q → ◌≡◌ {A = WireFrame} (record { command = c; body = Some (record { meta = m; payload = p }) }) (record { command = c; body = Some (record { meta = n; payload = q }) })
 same_frame c m n p q a b = rw (a, b) refl
 
-pub carried_is : (names : List (List ℕ)) (c : Command) (source : Option Place) (e : Entry) (k : KnownMeta) (rest payload bytes : List ℕ)
+pub carried_is : (names : List (List ℕ)) (c : Command) (source : Option ClusterRef) (e : Entry) (k : KnownMeta) (rest payload bytes : List ℕ)
     → ((fields : List Field) → joined k fields ≡ metadata_of names source e fields) → rest ≡ e.meta.rest → payload ≡ payload_text names e.content e.payload
     → IsMarkerRight names e.content e.payload → IsCarryingText c k rest payload bytes → IsCarriedText names c source e bytes
 carried_is names c source e k rest payload bytes known same is right h =
@@ -77,7 +77,7 @@ carried_is names c source e k rest payload bytes known same is right h =
       marker = right;
     }
 
-pub carried_fault : (names : List (List ℕ)) (c : Command) (source : Option Place) (e : Entry) (k : KnownMeta) (rest payload : List ℕ) (why : FrameFault)
+pub carried_fault : (names : List (List ℕ)) (c : Command) (source : Option ClusterRef) (e : Entry) (k : KnownMeta) (rest payload : List ℕ) (why : FrameFault)
     → ((fields : List Field) → joined k fields ≡ metadata_of names source e fields) → rest ≡ e.meta.rest → payload ≡ payload_text names e.content e.payload
     → IsCarryingFault c k rest payload why → IsCarriedFault names c source e why
 carried_fault names c source e k rest payload why known same is h =
@@ -89,13 +89,13 @@ carried_fault names c source e k rest payload why known same is h =
     }
 
 -- what writing it answers
-pub carried_answered : (names : List (List ℕ)) (c : Command) (source : Option Place) (e : Entry) (k : KnownMeta) (rest payload : List ℕ) (r : Result (List ℕ) FrameFault)
+pub carried_answered : (names : List (List ℕ)) (c : Command) (source : Option ClusterRef) (e : Entry) (k : KnownMeta) (rest payload : List ℕ) (r : Result (List ℕ) FrameFault)
     → ((fields : List Field) → joined k fields ≡ metadata_of names source e fields) → rest ≡ e.meta.rest → payload ≡ payload_text names e.content e.payload
     → IsMarkerRight names e.content e.payload → IfOk r (IsCarryingText c k rest payload) → IfOk r (IsCarriedText names c source e)
 carried_answered names c source e k rest payload (Ok bytes) known same is right h = carried_is names c source e k rest payload bytes known same is right h
 carried_answered names c source e k rest payload (Err why) known same is right h = tt
 
-pub carried_refused : (names : List (List ℕ)) (c : Command) (source : Option Place) (e : Entry) (k : KnownMeta) (rest payload : List ℕ) (r : Result (List ℕ) FrameFault)
+pub carried_refused : (names : List (List ℕ)) (c : Command) (source : Option ClusterRef) (e : Entry) (k : KnownMeta) (rest payload : List ℕ) (r : Result (List ℕ) FrameFault)
     → ((fields : List Field) → joined k fields ≡ metadata_of names source e fields) → rest ≡ e.meta.rest → payload ≡ payload_text names e.content e.payload
     → IfErr r (IsCarryingFault c k rest payload) → IfErr r (IsCarriedFault names c source e)
 carried_refused names c source e k rest payload (Ok bytes) known same is h = tt
@@ -121,16 +121,16 @@ not_large names f fault.Checksum h large other = large
 not_large names f (fault.Command c) h large other = large
 not_large names f (fault.Meta m) h large other = large
 
-pub send_written : (names : List (List ℕ)) (id seq : ℕ) (source : Option Place) (e : Entry) (bytes : List ℕ) → IsCarriedText names (command.Send id seq 1) source e bytes → IsWritten names (frame.Send id seq source e) bytes
+pub send_written : (names : List (List ℕ)) (id seq : ℕ) (source : Option ClusterRef) (e : Entry) (bytes : List ℕ) → IsCarriedText names (command.Send id seq 1) source e bytes → IsWritten names (frame.Send id seq source e) bytes
 send_written names id seq source e bytes h = record { rest = h.rest; kept = h.kept; canonical = h.canonical; is_text = h.is_text; marker = h.marker }
 
-pub send_fault : (names : List (List ℕ)) (id seq : ℕ) (source : Option Place) (e : Entry) (why : FrameFault) → IsCarriedFault names (command.Send id seq 1) source e why → IsTooLarge (frame_size names (frame.Send id seq source e) - 4) why
+pub send_fault : (names : List (List ℕ)) (id seq : ℕ) (source : Option ClusterRef) (e : Entry) (why : FrameFault) → IsCarriedFault names (command.Send id seq 1) source e why → IsTooLarge (frame_size names (frame.Send id seq source e) - 4) why
 send_fault names id seq source e why k = large_is names k.rest (frame.Send id seq source e) why k.kept refl k.large
 
-pub message_written : (names : List (List ℕ)) (id : ℕ) (position : Position) (source : Option Place) (e : Entry) (bytes : List ℕ) → IsCarriedText names (command.Message id position) source e bytes → IsWritten names (frame.Message id position source e) bytes
+pub message_written : (names : List (List ℕ)) (id : ℕ) (position : Position) (source : Option ClusterRef) (e : Entry) (bytes : List ℕ) → IsCarriedText names (command.Message id position) source e bytes → IsWritten names (frame.Message id position source e) bytes
 message_written names id position source e bytes h = record { rest = h.rest; kept = h.kept; canonical = h.canonical; is_text = h.is_text; marker = h.marker }
 
-pub message_fault : (names : List (List ℕ)) (id : ℕ) (position : Position) (source : Option Place) (e : Entry) (why : FrameFault) → IsCarriedFault names (command.Message id position) source e why → IsTooLarge (frame_size names (frame.Message id position source e) - 4) why
+pub message_fault : (names : List (List ℕ)) (id : ℕ) (position : Position) (source : Option ClusterRef) (e : Entry) (why : FrameFault) → IsCarriedFault names (command.Message id position) source e why → IsTooLarge (frame_size names (frame.Message id position source e) - 4) why
 message_fault names id position source e why k = large_is names k.rest (frame.Message id position source e) why k.kept refl k.large
 
 -- ---- a frame that carries no message
@@ -227,17 +227,13 @@ marker_right names m bytes n named is h =
     subst (λ (x : Marker). IsMarkerText (kind_number (marker_kind x)) (text (canonical_fields x)) x) named at in
     subst (λ (k : ℕ). IsMarkerText k (text (canonical_fields (named_marker names m))) (named_marker names m)) (same_number names m) of
 
-nothing : (bs : List ℕ) → (length bs == 0) ≡ true → bs ≡ []
-nothing [] e = refl
-nothing (b ∷ bs) e = absurd (omega (arith, eqb-true (length (b ∷ bs)) 0 e))
-
 -- no payload is kept
 pub unkept_text : (names : List (List ℕ)) (m : MachineMarker) (kept k bytes : List ℕ) → k ≡ kept → (length k == 0) ≡ true → bytes ≡ text (canonical_fields (named_marker names m)) → payload_text names (content.Marked m) kept ≡ bytes
-unkept_text names m kept k bytes same none is = rw (sym same ∙ nothing k none) (sym is)
+unkept_text names m kept k bytes same none is = rw (sym same ∙ empty_by_length k none) (sym is)
 
 pub unkept_right : (names : List (List ℕ)) (m : MachineMarker) (kept k : List ℕ) → k ≡ kept → (length k == 0) ≡ true
     → IsMarkerText (marker_type m) (text (canonical_fields (named_marker names m))) (named_marker names m) → IsMarkerRight names (content.Marked m) kept
-unkept_right names m kept k same none h = rw (sym same ∙ nothing k none) h
+unkept_right names m kept k same none h = rw (sym same ∙ empty_by_length k none) h
 
 -- a payload is kept
 pub kept_text : (names : List (List ℕ)) (m : MachineMarker) (kept k : List ℕ) → k ≡ kept → (length k == 0) ≡ false → payload_text names (content.Marked m) kept ≡ kept

@@ -5,8 +5,8 @@ use Rattle.geo_base.specs.declared.entry.Content.TheVariants as content
 use Rattle.geo_base.specs.declared.entry.Entry.{Entry}
 use Rattle.geo_base.specs.declared.frame.Frame.{Frame}
 use Rattle.geo_base.specs.declared.frame.Frame.TheVariants as frame
-use Rattle.geo_base.specs.declared.marker.Place.{Place}
-use Rattle.geo_base.specs.declared.marker.Place.TheVariants as place
+use Rattle.geo_base.specs.declared.marker.ClusterRef.{ClusterRef}
+use Rattle.geo_base.specs.declared.marker.ClusterRef.TheVariants as cluster_ref
 use Rattle.geo_base.specs.FrameSizes.{frame_size}
 use Rattle.geo_base.specs.Sizes.{marker_type}
 use Rattle.marker_codec.specs.Canonical.{canonical_fields}
@@ -23,9 +23,9 @@ use Rattle.pulsar_frames.specs.Frames.{IsFrameText}
 use Rattle.frame_values.specs.Texts.{body_of, is_readable, unread_bytes, wire_frame}
 
 -- a cluster's number, or else its name
-abbrev pub place_or : List ℕ → Option ℕ → Place
-place_or n None = place.Stranger n
-place_or n (Some x) = place.Known x
+abbrev pub place_or : List ℕ → Option ℕ → ClusterRef
+place_or n None = cluster_ref.Stranger n
+place_or n (Some x) = cluster_ref.Known x
 
 -- The text of a marker that keeps no payload is a text of it: its texts are UTF-8, and its numbers have 64 bits.
 abbrev pub IsMarkerRight : List (List ℕ) → Content → List ℕ → Type 0
@@ -47,7 +47,7 @@ pub record IsWritten (names : List (List ℕ)) (f : Frame) (bytes : List ℕ) : 
 
 -- A frame that has a text: bytes that can't be read are written by nobody, the bytes that an entry keeps of fields that nobody
 -- reads are their text, and the size is within the limit on frames (Pulsar's largest message and 10 KiB for what frames it,
--- 5,253,120 bytes, behind the size's own four).
+-- 5,253,120 bytes, after the size's own four).
 pub record IsWritable (names : List (List ℕ)) (f : Frame) : Type 0 where
   pub readable : is_readable f ≡ true
   pub rest : IsRest (unread_bytes f)
@@ -59,11 +59,11 @@ carries_entry (frame.Message id position source e) = true
 carries_entry f = false
 
 -- the frame of a command that carries an entry
-abbrev pub carried_frame : List (List ℕ) → Command → Option Place → Entry → List Field → WireFrame
+abbrev pub carried_frame : List (List ℕ) → Command → Option ClusterRef → Entry → List Field → WireFrame
 carried_frame names c source e rest = record { command = c; body = Some (body_of names source e rest) }
 
 -- The bytes are the canonical text of a command with an entry, and a text of it.
-pub record IsCarriedText (names : List (List ℕ)) (c : Command) (source : Option Place) (e : Entry) (bytes : List ℕ) : Type 0 where
+pub record IsCarriedText (names : List (List ℕ)) (c : Command) (source : Option ClusterRef) (e : Entry) (bytes : List ℕ) : Type 0 where
   pub rest : List Field
   pub kept : e.meta.rest ≡ text rest
   pub canonical : bytes ≡ frame_text (carried_frame names c source e rest)
@@ -71,7 +71,7 @@ pub record IsCarriedText (names : List (List ℕ)) (c : Command) (source : Optio
   pub marker : IsMarkerRight names e.content e.payload
 
 -- Its size is all that can be wrong with it.
-pub record IsCarriedFault (names : List (List ℕ)) (c : Command) (source : Option Place) (e : Entry) (why : FrameFault) : Type 0 where
+pub record IsCarriedFault (names : List (List ℕ)) (c : Command) (source : Option ClusterRef) (e : Entry) (why : FrameFault) : Type 0 where
   pub rest : List Field
   pub kept : e.meta.rest ≡ text rest
   pub large : IsTooLarge (wire_size (carried_frame names c source e rest)) why

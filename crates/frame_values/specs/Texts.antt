@@ -7,8 +7,8 @@ use Rattle.geo_base.specs.declared.entry.Content.TheVariants as content
 use Rattle.geo_base.specs.declared.entry.Entry.{Entry}
 use Rattle.geo_base.specs.declared.frame.Frame.{Frame}
 use Rattle.geo_base.specs.declared.frame.Frame.TheVariants as frame
-use Rattle.geo_base.specs.declared.marker.Place.{Place}
-use Rattle.geo_base.specs.Sizes.{marker_type, place_name}
+use Rattle.geo_base.specs.declared.marker.ClusterRef.{ClusterRef}
+use Rattle.geo_base.specs.Sizes.{marker_type, cluster_ref_name}
 use Rattle.marker_codec.specs.Canonical.{canonical_fields}
 use Rattle.marker_codec.specs.Machine.{named_marker}
 use Rattle.message_meta.specs.Metadata.{Metadata}
@@ -59,19 +59,19 @@ payload_text names (content.Marked m) [] = text (canonical_fields (named_marker 
 payload_text names c bytes = bytes
 
 -- the fields that nobody reads are given apart, since the machine keeps their bytes
-abbrev pub metadata_of : List (List ℕ) → Option Place → Entry → List Field → Metadata
+abbrev pub metadata_of : List (List ℕ) → Option ClusterRef → Entry → List Field → Metadata
 metadata_of names source e rest = record {
   producer = e.ident.producer;
   seq = e.ident.seq;
   publish_time = e.meta.publish_time;
-  replicated_from = option_map (place_name names) source;
+  replicated_from = option_map (cluster_ref_name names) source;
   key = e.meta.key;
   replicate_to = e.meta.names;
   marker = marker_number e.content;
   rest = rest;
 }
 
-abbrev pub body_of : List (List ℕ) → Option Place → Entry → List Field → Body
+abbrev pub body_of : List (List ℕ) → Option ClusterRef → Entry → List Field → Body
 body_of names source e rest = record { meta = metadata_of names source e rest; payload = payload_text names e.content e.payload }
 
 abbrev pub carried : List (List ℕ) → List Field → Frame → Option Body

@@ -6,8 +6,8 @@ use Rattle.geo_base.specs.declared.entry.Content.TheVariants as content
 use Rattle.geo_base.specs.declared.entry.Entry.{Entry}
 use Rattle.geo_base.specs.declared.frame.Frame.{Frame}
 use Rattle.geo_base.specs.declared.frame.Frame.TheVariants as frame
-use Rattle.geo_base.specs.declared.marker.Place.{Place}
-use Rattle.geo_base.specs.Sizes.{place_name}
+use Rattle.geo_base.specs.declared.marker.ClusterRef.{ClusterRef}
+use Rattle.geo_base.specs.Sizes.{cluster_ref_name}
 use Rattle.marker_codec.specs.Machine.{named_marker}
 use Rattle.frame_values.specs.Texts.{marker_number}
 use Rattle.frame_values.specs.Values.{IsContent, place_of, placed_marker, targets_of}
@@ -19,9 +19,9 @@ IsToldContent names c payload = IsContent names (marker_number c) payload c payl
 
 -- The targets are those of the names, a number stands for a cluster that has its name, and the payload is kept exactly where it
 -- is not its marker's canonical text.
-pub record IsToldEntry (names : List (List ℕ)) (source : Option Place) (e : Entry) : Type 0 where
+pub record IsToldEntry (names : List (List ℕ)) (source : Option ClusterRef) (e : Entry) : Type 0 where
   pub to : e.to ≡ targets_of names e.meta.names
-  pub from : source ≡ option_map (place_of names) (option_map (place_name names) source)
+  pub from : source ≡ option_map (place_of names) (option_map (cluster_ref_name names) source)
   pub content : IsToldContent names e.content e.payload
 
 abbrev pub IsTold : List (List ℕ) → Frame → Type 0

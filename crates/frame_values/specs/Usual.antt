@@ -5,7 +5,7 @@ use Rattle.geo_base.specs.declared.entry.Content.{Content}
 use Rattle.geo_base.specs.declared.entry.Content.TheVariants as content
 use Rattle.geo_base.specs.declared.entry.Entry.{Entry}
 use Rattle.geo_base.specs.declared.entry.Targets.TheVariants as targets
-use Rattle.geo_base.specs.declared.marker.Place.{Place}
+use Rattle.geo_base.specs.declared.marker.ClusterRef.{ClusterRef}
 use Rattle.pulsar_frames.specs.declared.view.MessageView.{MessageView}
 use Rattle.frame_values.specs.Values.{place_of}
 
@@ -28,5 +28,5 @@ entry_viewed x m = record {
 }
 
 -- where it says that it was stored first
-abbrev pub source_viewed : List (List ℕ) → MessageView → Option Place
+abbrev pub source_viewed : List (List ℕ) → MessageView → Option ClusterRef
 source_viewed names m = option_map (place_of names) (option_copied m.meta.replicated_from)

@@ -1,7 +1,7 @@
 //! What an entry is, by its marker type and its payload.
 ghost use Rattle.std.specs.Prelude.{◌≡◌, ◌≤◌, ◌<◌, ◌^◌, [], length, map, None, Some, IfOk, MatchOption, OnOk};
 ghost use Rattle.geo_base.specs.declared.marker.Marker.TheVariants as machine;
-ghost use Rattle.geo_base.specs.Sizes.{marker_type, place_name};
+ghost use Rattle.geo_base.specs.Sizes.{marker_type, cluster_ref_name};
 ghost use Rattle.pb_fields.specs.Canonical.{text};
 ghost use Rattle.marker_codec.specs.Canonical.{canonical_fields};
 ghost use Rattle.marker_codec.specs.Markers.{IsMarkerText};
@@ -13,8 +13,8 @@ ghost use Rattle.frame_values.specs.Values.{IsContent, place_of, placed_cluster,
 use crate::place::{name_of, place_of};
 use geo_base::limits::CLUSTERS;
 use geo_base::{
-    Blob, BoxedMarker, ClusterName, ClusterPosition, Content, Marker as MachineMarker, Memory,
-    Place, Position, Sequence, Text,
+    Blob, BoxedMarker, ClusterName, ClusterPosition, ClusterRef, Content, Marker as MachineMarker,
+    Memory, Position, Sequence, Text,
 };
 use marker_codec::{ClusterMessageId, Marker, MarkerFault};
 use std::alloc::Global;
@@ -149,7 +149,7 @@ fn placed_clusters(
     }
 }
 
-/// Clusters by their numbers, behind none.
+/// Clusters by their numbers, after none.
 fn add_placed(
     alloc: Global,
     names: &[ClusterName],

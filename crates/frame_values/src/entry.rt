@@ -1,7 +1,7 @@
 //! Entries of the machine, and the messages that carry them in a frame.
 ghost use Rattle.std.specs.Prelude.{◌≡◌, ◌≤◌, List, length, IfOk, OnOk};
 ghost use Rattle.std.specs.Option.{option_copied, option_map};
-ghost use Rattle.geo_base.specs.Sizes.{place_name};
+ghost use Rattle.geo_base.specs.Sizes.{cluster_ref_name};
 ghost use Rattle.pb_fields.specs.Canonical.{text};
 ghost use Rattle.pb_fields.specs.declared.field.Field.{Field};
 ghost use Rattle.frame_values.specs.Texts.{marker_number, metadata_of};
@@ -11,10 +11,10 @@ ghost use Rattle.pb_fields.specs.Field.{IsField};
 ghost use Rattle.message_meta.specs.Known.{IsRest, joined};
 
 use crate::content::{content_of, marker_number};
-use crate::place::{name_of, optional_place, targets_of};
+use crate::place::{name_of, optional_cluster_ref, targets_of};
 use geo_base::limits::CLUSTERS;
 use geo_base::{
-    Blob, ClusterName, Content, Entry, Ident, Memory, Metadata, Place, ProducerName, Sequence,
+    Blob, ClusterName, ClusterRef, Content, Entry, Ident, Memory, Metadata, ProducerName, Sequence,
     Targets, Text,
 };
 use message_meta::{KnownMeta, Meta};
@@ -24,14 +24,14 @@ use std::alloc::Global;
 
 /// The entry that a message in a frame is, and where it says that it was stored first.
 pub(crate) struct Carried {
-    pub source: Option<Place>,
+    pub source: Option<ClusterRef>,
     pub entry: Entry,
 }
 
 /// What the metadata of a message says of its entry.
 #[derive(Drop)]
 pub(crate) struct Head {
-    pub source: Option<Place>,
+    pub source: Option<ClusterRef>,
     pub ident: Ident,
     pub to: Targets,
     pub meta: Metadata,
@@ -117,7 +117,7 @@ fn head_with(alloc: Global, names: &[ClusterName], meta: Meta, rest: Blob) -> Re
         producer: ProducerName::from_text(producer),
         seq,
     };
-    let source = optional_place(names, replicated_from);
+    let source = optional_cluster_ref(names, replicated_from);
     let to = targets_of(names, replicate_to.as_slice());
     match Metadata::new(alloc, publish_time, key, replicate_to, rest) {
         Ok(meta) => Ok(Head {
@@ -147,7 +147,7 @@ pub fn fields_text(alloc: Global, fields: &FieldList) -> Result<Blob, Memory>
 /// The metadata of an entry, each part where it stands.
 pub fn known_of<'a>(
     names: &'a [ClusterName],
-    source: &'a Option<Place>,
+    source: &'a Option<ClusterRef>,
     entry: &'a Entry,
 ) -> KnownMeta<'a>
     ensures { (rest : List Field) → joined result rest ≡ metadata_of names.entry.now source.entry.now entry.entry.now rest }
@@ -166,9 +166,9 @@ pub fn known_of<'a>(
 /// The name of the cluster that a message was replicated from, where it was.
 pub(crate) fn source_name<'a>(
     names: &'a [ClusterName],
-    source: &'a Option<Place>,
+    source: &'a Option<ClusterRef>,
 ) -> Option<&'a str>
-    ensures { option_copied result ≡ option_map (place_name names.entry.now) source.entry.now }
+    ensures { option_copied result ≡ option_map (cluster_ref_name names.entry.now) source.entry.now }
 {
     match source {
         None => None,

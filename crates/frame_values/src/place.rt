@@ -1,22 +1,22 @@
 //! Clusters by their names.
 ghost use Rattle.std.specs.Prelude.{◌≡◌, ◌+◌, ◌<◌, ◌≤◌, ◌^◌, List, length, IfOk};
 ghost use Rattle.std.specs.Option.{option_copied, option_map};
-ghost use Rattle.geo_base.specs.Sizes.{place_name};
+ghost use Rattle.geo_base.specs.Sizes.{cluster_ref_name};
 ghost use Rattle.frame_values.specs.Values.{bits_of, lists, place_from, place_of, targets_of};
 ghost use Rattle.frame_values.specs.Coded.{place_or};
 
 use geo_base::limits::CLUSTERS;
-use geo_base::{ClusterName, Memory, Place, Sequence, Targets, Text};
+use geo_base::{ClusterName, ClusterRef, Memory, Sequence, Targets, Text};
 use std::alloc::Global;
 
 /// The cluster that a text names, or the text, where it names none.
-pub(crate) fn place_of(names: &[ClusterName], name: Text) -> Place
+pub(crate) fn place_of(names: &[ClusterName], name: Text) -> ClusterRef
     requires { length names.now < 2 ^ 32 }
     ensures { result ≡ place_of names.now name }
 {
     match number_of(names, 0, name.as_bytes()) {
-        Some(number) => Place::Known(number),
-        None => Place::Stranger(name),
+        Some(number) => ClusterRef::Known(number),
+        None => ClusterRef::Stranger(name),
     }
 }
 
@@ -33,7 +33,7 @@ pub fn number_of(names: &[ClusterName], first: u32, name: &[u8]) -> Option<u32>
 }
 
 /// The same of a name that may be absent.
-pub(crate) fn optional_place(names: &[ClusterName], name: Option<Text>) -> Option<Place>
+pub(crate) fn optional_cluster_ref(names: &[ClusterName], name: Option<Text>) -> Option<ClusterRef>
     requires { length names.now < 2 ^ 32 }
     ensures { result ≡ option_map (place_of names.now) name }
 {
@@ -76,14 +76,14 @@ fn is_listed(listed: &[Text], name: &[u8]) -> bool
 }
 
 /// The text of a place: the cluster's name, or the name that no cluster has. Empty where there is no such cluster.
-pub(crate) fn name_of<'a>(names: &'a [ClusterName], place: &'a Place) -> &'a str
-    ensures { result.now ≡ place_name names.entry.now place.entry.now }
+pub(crate) fn name_of<'a>(names: &'a [ClusterName], place: &'a ClusterRef) -> &'a str
+    ensures { result.now ≡ cluster_ref_name names.entry.now place.entry.now }
 {
     match place {
-        Place::Known(number) => match names.get(*number as usize) {
+        ClusterRef::Known(number) => match names.get(*number as usize) {
             Some(name) => name.as_str(),
             None => "",
         },
-        Place::Stranger(name) => name.as_str(),
+        ClusterRef::Stranger(name) => name.as_str(),
     }
 }

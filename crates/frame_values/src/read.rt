@@ -9,7 +9,7 @@ use crate::command::simple_frame;
 use crate::entry::{Carried, entry_of};
 use crate::usual::usual_value;
 use geo_base::limits::CLUSTERS;
-use geo_base::{ClusterName, Entry, Frame, Memory, Place};
+use geo_base::{ClusterName, ClusterRef, Entry, Frame, Memory};
 use pulsar_commands::Command;
 use pulsar_frames::{Frame as WireFrame, read_frame, usual_frame};
 use std::alloc::Global;
@@ -62,7 +62,7 @@ fn value_of(alloc: Global, names: &[ClusterName], frame: WireFrame) -> Result<Fr
 }
 
 /// A command with the message that it carries.
-fn carrying(command: Command, source: Option<Place>, entry: Entry) -> Frame
+fn carrying(command: Command, source: Option<ClusterRef>, entry: Entry) -> Frame
     ensures { result ≡ carrying command source entry }
 {
     match command {
@@ -93,7 +93,7 @@ fn carrying(command: Command, source: Option<Place>, entry: Entry) -> Frame
 }
 
 /// No frame of the machine: the message is let go.
-fn unreadable(_source: Option<Place>, _entry: Entry) -> Frame
+fn unreadable(_source: Option<ClusterRef>, _entry: Entry) -> Frame
     ensures { result ≡ Frame.Unreadable }
 {
     Frame::Unreadable

@@ -1,6 +1,6 @@
 //! How large an entry is, by its value.
 ghost use Rattle.std.specs.Prelude.{◌≡◌, ◌+◌, ◌<◌, ◌^◌, length, nat_le};
-ghost use Rattle.geo_base.specs.Sizes.{bytes_field, cluster_position_size, cluster_positions, entry_size, marker_size, marker_type_size, metadata_size, most_entry_size, number_field, optional_text, payload_size, place_name, position_size, repeated_text, tag_size, text_field, varint_size};
+ghost use Rattle.geo_base.specs.Sizes.{bytes_field, cluster_position_size, cluster_positions, entry_size, marker_size, marker_type_size, metadata_size, most_entry_size, number_field, optional_text, payload_size, cluster_ref_name, position_size, repeated_text, tag_size, text_field, varint_size};
 ghost use Rattle.pulsar_frames.specs.Counted.{counted};
 
 use crate::content::marker_number;

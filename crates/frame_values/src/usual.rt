@@ -17,7 +17,7 @@ use crate::entry::{Carried, source_name};
 use crate::place::number_of;
 use geo_base::limits::CLUSTERS;
 use geo_base::{
-    Blob, ClusterName, Content, Entry, Frame, Ident, Memory, Metadata, Place, ProducerName,
+    Blob, ClusterName, ClusterRef, Content, Entry, Frame, Ident, Memory, Metadata, ProducerName,
     Targets, Text, optional_text,
 };
 use message_meta::MetaView;
@@ -66,7 +66,7 @@ fn simple_value(command: CommandView) -> Frame
 }
 
 /// What a command with a message says.
-fn carrying_value(command: CommandView, source: Option<Place>, entry: Entry) -> Frame
+fn carrying_value(command: CommandView, source: Option<ClusterRef>, entry: Entry) -> Frame
     ensures { result ≡ carrying (command_viewed command) source entry }
 {
     match command {
@@ -149,7 +149,7 @@ fn place_named(
     alloc: Global,
     names: &[ClusterName],
     name: Option<&str>,
-) -> Result<Option<Place>, Memory>
+) -> Result<Option<ClusterRef>, Memory>
     requires { length names.now ≤ CLUSTERS }
     ensures { IfOk result (λ place. place ≡ option_map (place_of names.now) (option_copied name.entry)) }
 {
@@ -157,8 +157,8 @@ fn place_named(
         return Ok(None);
     };
     match number_of(names, 0, name.as_bytes()) {
-        Some(number) => Ok(Some(Place::Known(number))),
-        None => Ok(Some(Place::Stranger(Text::from_str(alloc, name)?))),
+        Some(number) => Ok(Some(ClusterRef::Known(number))),
+        None => Ok(Some(ClusterRef::Stranger(Text::from_str(alloc, name)?))),
     }
 }
 
@@ -167,7 +167,7 @@ pub(crate) fn usual_text(
     alloc: Global,
     names: &[ClusterName],
     command: CommandView,
-    source: &Option<Place>,
+    source: &Option<ClusterRef>,
     entry: &Entry,
 ) -> Result<Option<Blob>, Memory>
     requires { carries (kind_of (command_viewed command)) ≡ true }
@@ -184,7 +184,7 @@ pub(crate) fn usual_text(
 #[tactic(auto, using(crate::proofs::UsualValues::message_is))]
 fn message_of<'a>(
     names: &'a [ClusterName],
-    source: &'a Option<Place>,
+    source: &'a Option<ClusterRef>,
     entry: &'a Entry,
 ) -> MessageView<'a>
     requires { is_usual entry.now ≡ true }

@@ -16,7 +16,7 @@ use crate::content::canonical_payload;
 use crate::entry::known_of;
 use crate::usual::usual_text;
 use geo_base::limits::ACKED_AT_ONCE;
-use geo_base::{AckKind, Blob, ClusterName, Entry, Frame, Memory, Place, Position};
+use geo_base::{AckKind, Blob, ClusterName, ClusterRef, Entry, Frame, Memory, Position};
 use pulsar_commands::{AckView, Command, CommandView};
 use pulsar_frames::{
     Frame as WireFrame, FrameFault, write_carrying, write_frame, write_usual_ack,
@@ -97,7 +97,7 @@ pub fn write_send(
     names: &[ClusterName],
     id: u64,
     seq: u64,
-    source: &Option<Place>,
+    source: &Option<ClusterRef>,
     entry: &Entry,
 ) -> Result<Blob, Memory>
     requires { IsWritable names.now (frame.Send id seq source.now entry.now) }
@@ -119,7 +119,7 @@ pub fn write_message(
     names: &[ClusterName],
     id: u64,
     position: Position,
-    source: &Option<Place>,
+    source: &Option<ClusterRef>,
     entry: &Entry,
 ) -> Result<Blob, Memory>
     requires { IsWritable names.now (frame.Message id position source.now entry.now) }
@@ -140,7 +140,7 @@ fn send_text(
     names: &[ClusterName],
     id: u64,
     seq: u64,
-    source: &Option<Place>,
+    source: &Option<ClusterRef>,
     entry: &Entry,
 ) -> Result<Blob, FrameFault>
     requires { IsRest entry.now.meta.rest }
@@ -161,7 +161,7 @@ fn message_text(
     names: &[ClusterName],
     id: u64,
     position: Position,
-    source: &Option<Place>,
+    source: &Option<ClusterRef>,
     entry: &Entry,
 ) -> Result<Blob, FrameFault>
     requires { IsRest entry.now.meta.rest }
@@ -180,7 +180,7 @@ fn carried_text(
     alloc: Global,
     names: &[ClusterName],
     command: CommandView,
-    source: &Option<Place>,
+    source: &Option<ClusterRef>,
     entry: &Entry,
 ) -> Result<Blob, FrameFault>
     requires carries { carries (kind_of (command_viewed command)) ≡ true }
@@ -205,7 +205,7 @@ fn any_carried_text(
     alloc: Global,
     names: &[ClusterName],
     command: &Command,
-    source: &Option<Place>,
+    source: &Option<ClusterRef>,
     entry: &Entry,
 ) -> Result<Blob, FrameFault>
     requires carries { carries (kind_of command.now) ≡ true }

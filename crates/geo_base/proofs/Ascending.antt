@@ -26,7 +26,7 @@ place_found key xs k at le p = record {
   high = λ i d a b. ltb-false _ _ (p.1 i d a b);
 }
 
--- the place behind the first item of a longer list
+-- the place after the first item of a longer list
 place_behind : {X : Type 0} (key : X → ℕ) (x : X) (xs : List X) (k at : ℕ) → IsPlace X key (x ∷ xs) k (suc at) → IsPlace X key xs k at
 place_behind key x xs k at p = record {
   within = omega (arith, p.within);

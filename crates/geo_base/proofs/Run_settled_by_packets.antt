@@ -1,5 +1,5 @@
 -- What is settled, computed: of three messages on three subscriptions, event by event. An ACK settles what it names, also where a
--- stop comes behind its write but not before; a creation at Latest what is there; a seek what is below it; and a cumulative ACK on
+-- stop comes after its write but not before; a creation at Latest what is there; a seek what is below it; and a cumulative ACK on
 -- a Shared subscription, a seek to a position where nothing is stored and a creation at Earliest settle nothing.
 use Rattle.std.specs.Prelude.{◌≡◌, ℕ, ◌∷◌, ◌++◌, [], List, true, false, Some, None, codes, refl}
 use Rattle.geo_base.specs.Types.{Event, Ident, Step}
@@ -59,7 +59,7 @@ next c = step.Plain (event.Go c) ∷ step.Plain (event.Serve 0 c) ∷ []
 abbrev connected : ℕ → List Step
 connected c = step.Plain (event.Reconnect c) ∷ step.Plain (event.Serve 0 c) ∷ []
 
--- three messages come to a consumer, behind the answers to its CONNECT and its SUBSCRIBE
+-- three messages come to a consumer, after the answers to its CONNECT and its SUBSCRIBE
 abbrev gets_three : ℕ → ℕ → List Step
 gets_three c n =
     step.Plain (event.Offer 0 0 n) ∷ step.Plain (event.Offer 0 0 n) ∷ step.Plain (event.Offer 0 0 n) ∷ step.Plain (event.Get c) ∷ step.Plain (event.Get c) ∷

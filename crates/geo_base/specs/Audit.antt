@@ -4,11 +4,11 @@
 use Rattle.std.specs.Prelude.{ℕ, ◌+◌, nat_lt, nat_le, ◌==◌, Bool, true, false, not, ◌&&◌, ◌||◌, if◌then◌else◌, List, [], ◌∷◌, ◌++◌, length, take, Option, Some, None, is_none, is_some, slice_get, Result, Ok, Err}
 use Rattle.std.specs.List.{list_all, list_any, range_with_len}
 use Rattle.std.specs.Str.{bytes_eq}
-use Rattle.geo_base.specs.Types.{Cause, ClusterPosition, Content, Entry, Marker, Place, Position, Targets}
+use Rattle.geo_base.specs.Types.{Cause, ClusterPosition, Content, Entry, Marker, ClusterRef, Position, Targets}
 use Rattle.geo_base.specs.Types.cause
 use Rattle.geo_base.specs.Types.content
 use Rattle.geo_base.specs.Types.marker
-use Rattle.geo_base.specs.Types.place
+use Rattle.geo_base.specs.Types.cluster_ref
 use Rattle.geo_base.specs.Types.targets
 use Rattle.geo_base.specs.Cursor.{has, mark}
 use Rattle.geo_base.specs.Entry.{is_data, meant_for, same_ident}
@@ -18,7 +18,7 @@ use Rattle.geo_base.specs.Settled.{SettledSoFar}
 use Rattle.geo_base.specs.Setup.{Setup}
 use Rattle.geo_base.specs.Topic.{accepts}
 use Rattle.geo_base.specs.TraceItems.{Act, Acks, Appends, Begins, Creates, Deletes, Item, Seeks, Writes, names_same}
-use Rattle.geo_base.specs.Updating.{passes, positions_for}
+use Rattle.geo_base.specs.Updating.{is_updated, positions_for}
 
 -- a rule that has to hold, and what is judged after it
 abbrev pub unless_broken : ℕ → Bool → Option ℕ → Option ℕ
@@ -40,13 +40,13 @@ same_targets targets.All targets.All = true
 same_targets (targets.Only a) (targets.Only b) = a == b
 same_targets a b = false
 
-abbrev pub same_place : Place → Place → Bool
-same_place (place.Known x) (place.Known y) = x == y
-same_place (place.Stranger m) (place.Stranger n) = bytes_eq m n
-same_place a b = false
+abbrev pub same_cluster_ref : ClusterRef → ClusterRef → Bool
+same_cluster_ref (cluster_ref.Known x) (cluster_ref.Known y) = x == y
+same_cluster_ref (cluster_ref.Stranger m) (cluster_ref.Stranger n) = bytes_eq m n
+same_cluster_ref a b = false
 
 abbrev pub same_pair : ClusterPosition → ClusterPosition → Bool
-same_pair r q = same_place r.cluster q.cluster && same_position r.position q.position
+same_pair r q = same_cluster_ref r.cluster q.cluster && same_position r.position q.position
 
 abbrev pub same_pairs : List ClusterPosition → List ClusterPosition → Bool
 same_pairs [] [] = true
@@ -54,7 +54,7 @@ same_pairs (r ∷ rs) (q ∷ qs) = same_pair r q && same_pairs rs qs
 same_pairs rs qs = false
 
 abbrev pub same_marker : Marker → Marker → Bool
-same_marker (marker.Request i a) (marker.Request j b) = bytes_eq i j && same_place a b
+same_marker (marker.Request i a) (marker.Request j b) = bytes_eq i j && same_cluster_ref a b
 same_marker (marker.Response i a) (marker.Response j b) = bytes_eq i j && same_pair a b
 same_marker (marker.Snapshot i p rs) (marker.Snapshot j q qs) = bytes_eq i j && same_position p q && same_pairs rs qs
 same_marker (marker.Update m rs) (marker.Update n qs) = bytes_eq m n && same_pairs rs qs
@@ -171,32 +171,32 @@ are_markers m is = list_all (λ i. is_marker (slice_get m.entries i)) is
 -- ---- this subscription, and names one stored position of this cluster; up to that it passes over markers and what is meant for its
 -- ---- cluster, and over nothing else
 
-abbrev pub passes_at : ℕ → Option Entry → Bool
-passes_at y None = false
-passes_at y (Some e) = passes y e
+abbrev pub is_updated_at : ℕ → Option Entry → Bool
+is_updated_at y None = false
+is_updated_at y (Some e) = is_updated y e
 
 abbrev pub is_passed : ℕ → ℕ → Mirror → ℕ → Bool
-is_passed y j m i = nat_le i j && passes_at y (slice_get m.entries i)
+is_passed y j m i = nat_le i j && is_updated_at y (slice_get m.entries i)
 
 abbrev pub only_named : Mirror → List Position → Option ℕ
 only_named m [] = None
 only_named m (p ∷ []) = index_at m p
 only_named m (p ∷ q ∷ ps) = None
 
-abbrev pub passes_all : ℕ → Mirror → List ℕ → Option ℕ → Bool
-passes_all y m is None = false
-passes_all y m is (Some j) = list_all (is_passed y j m) is
+abbrev pub are_all_updated : ℕ → Mirror → List ℕ → Option ℕ → Bool
+are_all_updated y m is None = false
+are_all_updated y m is (Some j) = list_all (is_passed y j m) is
 
-abbrev pub passes_content : ℕ → ℕ → Mirror → List ℕ → List ℕ → Content → Bool
-passes_content x y m n is (content.Marked (marker.Update name remote)) =
-    bytes_eq name n && not (y == x) && passes_all y m is (only_named m (positions_for x remote))
-passes_content x y m n is c = false
+abbrev pub content_updates : ℕ → ℕ → Mirror → List ℕ → List ℕ → Content → Bool
+content_updates x y m n is (content.Marked (marker.Update name remote)) =
+    bytes_eq name n && not (y == x) && are_all_updated y m is (only_named m (positions_for x remote))
+content_updates x y m n is c = false
 
-abbrev pub passes_entry : ℕ → Mirror → List ℕ → List ℕ → Option Entry → Bool
-passes_entry x m n is None = false
-passes_entry x m n is (Some u) = passes_content x u.ident.origin m n is u.content
+abbrev pub entry_updates : ℕ → Mirror → List ℕ → List ℕ → Option Entry → Bool
+entry_updates x m n is None = false
+entry_updates x m n is (Some u) = content_updates x u.ident.origin m n is u.content
 
--- ---- 11: a seek goes to an index that is stored, or right behind the last one
+-- ---- 11: a seek goes to an index that is stored, or right after the last one
 
 -- ---- the lowest rule that a line breaks
 
@@ -204,7 +204,7 @@ passes_entry x m n is (Some u) = passes_content x u.ident.origin m n is u.conten
 abbrev pub cause_refused : ℕ → Mirror → List ℕ → List ℕ → Cause → Option ℕ
 cause_refused x m n is cause.Client = None
 cause_refused x m n is cause.Marker = unless_broken 9 (are_markers m is) None
-cause_refused x m n is (cause.Update p) = unless_broken 10 (passes_entry x m n is (entry_by m (Some p))) None
+cause_refused x m n is (cause.Update p) = unless_broken 10 (entry_updates x m n is (entry_by m (Some p))) None
 cause_refused x m n is c = Some 1
 
 abbrev pub act_refused : Setup → Mirrors → ℕ → ℕ → Mirror → Act → Option ℕ

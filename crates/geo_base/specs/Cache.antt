@@ -1,8 +1,8 @@
 -- The snapshots that a replicated subscription keeps, oldest first, until its mark-delete passes them (PIP-33).
 use Rattle.std.specs.Prelude.{ℕ, nat_lt, ◌==◌, Bool, if◌then◌else◌, List, [], ◌∷◌, ◌++◌, length, drop, replicate, Option, Some, None, slice_set}
 use Rattle.std.specs.List.{list_any}
-use Rattle.geo_base.specs.Types.{CachedSnapshot, ClusterPosition, Cut, Place, Position}
-use Rattle.geo_base.specs.Types.place
+use Rattle.geo_base.specs.Types.{CachedSnapshot, ClusterPosition, Cut, ClusterRef, Position}
+use Rattle.geo_base.specs.Types.cluster_ref
 
 -- Pulsar's default for the snapshots that a subscription keeps (replicatedSubscriptionsSnapshotMaxCachedPerSubscription)
 abbrev pub most_cached : ℕ
@@ -27,9 +27,9 @@ not_passed mark [] = []
 not_passed mark (c ∷ cs) = if any_passed mark (c ∷ cs) then not_passed mark cs else c ∷ cs
 
 -- a place that a marker names, put into the remote positions of a cut of the cluster own
-abbrev pub with_place : ℕ → Place → Position → List (Option Position) → List (Option Position)
-with_place own (place.Known x) p ps = if x == own then ps else slice_set ps x (Some p)
-with_place own (place.Stranger n) p ps = ps
+abbrev pub with_place : ℕ → ClusterRef → Position → List (Option Position) → List (Option Position)
+with_place own (cluster_ref.Known x) p ps = if x == own then ps else slice_set ps x (Some p)
+with_place own (cluster_ref.Stranger n) p ps = ps
 
 abbrev pub with_places : ℕ → List (Option Position) → List ClusterPosition → List (Option Position)
 with_places own ps [] = ps

@@ -1,6 +1,6 @@
 -- The dispatcher: which entry of a subscription is offered next, and to which consumer (Pulsar manual, subscription types).
 use Rattle.std.specs.Prelude.{ℕ, zero, suc, ◌+◌, ◌-◌, ◌*◌, ◌%◌, max, nat_lt, nat_le, ◌==◌, Bool, not, ◌&&◌, ◌||◌, if◌then◌else◌, List, [], ◌∷◌, ◌++◌, length, fold, filter, take, drop, Option, Some, None, slice_set, slice_index_or}
-use Rattle.geo_base.specs.Types.{Consumer, Outstanding, SubKind}
+use Rattle.geo_base.specs.Types.{Consumer, Unacked, SubKind}
 use Rattle.geo_base.specs.Types.sub_kind
 use Rattle.geo_base.specs.Cursor.{has}
 use Rattle.geo_base.specs.Subscription.{Subscription}
@@ -19,8 +19,8 @@ abbrev pub least_due : Subscription → ℕ → Option ℕ
 least_due s entries = least_due_from s 0 entries
 
 -- an index that was offered is no longer due again, and reading has passed it
-abbrev pub passed_index : ℕ → Subscription → Subscription
-passed_index i s = record s { due = filter (λ j. not (j == i)) s.due; read_index = max s.read_index (i + 1) }
+abbrev pub skipped_index : ℕ → Subscription → Subscription
+skipped_index i s = record s { due = filter (λ j. not (j == i)) s.due; read_index = max s.read_index (i + 1) }
 
 -- the consumer at a place in the order
 abbrev pub consumer_at : List Consumer → ℕ → Consumer
@@ -58,13 +58,13 @@ served sub_kind.Shared ks at = take at ks ++ drop (at + 1) ks ++ used (consumer_
 served kind ks at = slice_set ks at (used (consumer_at ks at))
 
 -- one more index is out; what is out ascends by index, as every set of indexes does, and an index is out once (own)
-abbrev pub with_out : List Outstanding → Outstanding → List Outstanding
+abbrev pub with_out : List Unacked → Unacked → List Unacked
 with_out [] o = o ∷ []
 with_out (x ∷ xs) o = if nat_lt o.index x.index then o ∷ x ∷ xs else if x.index == o.index then o ∷ xs else x ∷ with_out xs o
 
 -- an index is given to the consumer at a place
 abbrev pub given : ℕ → ℕ → Subscription → Subscription
-given i at s = record (passed_index i s) {
+given i at s = record (skipped_index i s) {
   consumers = served s.kind s.consumers at;
   out = with_out s.out (record { index = i; client = (consumer_at s.consumers at).client });
 }

@@ -1,9 +1,9 @@
 -- An entry: what names it, which clusters it is for, and what it is (MessageMetadata).
 use Rattle.std.specs.Prelude.{ℕ, ◌/◌, ◌%◌, ◌^◌, ◌==◌, Bool, true, false, ◌&&◌, ◌||◌, List, [], Option, Some, None, codes}
 use Rattle.std.specs.Str.{bytes_eq}
-use Rattle.geo_base.specs.Types.{Content, Entry, Ident, Place, Targets}
+use Rattle.geo_base.specs.Types.{Content, Entry, Ident, ClusterRef, Targets}
 use Rattle.geo_base.specs.Types.content
-use Rattle.geo_base.specs.Types.place
+use Rattle.geo_base.specs.Types.cluster_ref
 use Rattle.geo_base.specs.Types.targets
 
 -- of one origin and producer: sequence ids are compared among these alone (own: Pulsar keys by the producer's name)
@@ -14,9 +14,9 @@ abbrev pub same_ident : Ident → Ident → Bool
 same_ident a b = same_stream a b && (a.seq == b.seq)
 
 -- whether a name stands for the cluster of a number
-abbrev pub is_place : ℕ → Place → Bool
-is_place x (place.Known y) = x == y
-is_place x (place.Stranger n) = false
+abbrev pub means_cluster : ℕ → ClusterRef → Bool
+means_cluster x (cluster_ref.Known y) = x == y
+means_cluster x (cluster_ref.Stranger n) = false
 
 abbrev pub is_data : Content → Bool
 is_data content.Data = true

@@ -1,9 +1,9 @@
 -- How many bytes a frame takes, its first four included (Pulsar binary protocol: total size, command size, command, and for
 -- SEND and MESSAGE metadata size, metadata, payload; every field that a command has a value for is written).
 use Rattle.std.specs.Prelude.{ℕ, ◌+◌, List, [], ◌∷◌, Option, Some, None}
-use Rattle.geo_base.specs.Types.{Entry, Frame, Out, Place, Position}
+use Rattle.geo_base.specs.Types.{Entry, Frame, Out, ClusterRef, Position}
 use Rattle.geo_base.specs.Types.frame
-use Rattle.geo_base.specs.Sizes.{bytes_field, number_field, optional_text, text_field, place_name, position_size, entry_size}
+use Rattle.geo_base.specs.Sizes.{bytes_field, number_field, optional_text, text_field, cluster_ref_name, position_size, entry_size}
 
 abbrev pub optional_position : ℕ → Option Position → ℕ
 optional_position field None = 0
@@ -13,12 +13,12 @@ abbrev pub repeated_position : ℕ → List Position → ℕ
 repeated_position field [] = 0
 repeated_position field (p ∷ ps) = bytes_field field (position_size p) + repeated_position field ps
 
-abbrev pub source_size : List (List ℕ) → Option Place → ℕ
+abbrev pub source_size : List (List ℕ) → Option ClusterRef → ℕ
 source_size names None = 0
-source_size names (Some p) = text_field 5 (place_name names p)
+source_size names (Some p) = text_field 5 (cluster_ref_name names p)
 
 -- what follows the command: the metadata's length in four bytes, the metadata with replicated_from, the payload
-abbrev pub body_size : List (List ℕ) → Option Place → Entry → ℕ
+abbrev pub body_size : List (List ℕ) → Option ClusterRef → Entry → ℕ
 body_size names source e = 4 + (source_size names source + entry_size names e)
 
 -- a field whose value is a number below 128

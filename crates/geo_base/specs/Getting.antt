@@ -2,13 +2,13 @@
 -- what cannot be read and every command that tells it nothing (own).
 use Rattle.std.specs.Prelude.{ℕ, ◌+◌, ◌==◌, Bool, true, false, if◌then◌else◌, List, [], ◌∷◌, ◌++◌, Option, Some, None, slice_get}
 use Rattle.std.specs.List.{list_any}
-use Rattle.geo_base.specs.Types.{Entry, Frame, Ident, Line, Packet, Place, Position}
+use Rattle.geo_base.specs.Types.{Entry, Frame, Ident, Line, Packet, ClusterRef, Position}
 use Rattle.geo_base.specs.Types.frame
 use Rattle.geo_base.specs.Types.line
-use Rattle.geo_base.specs.Types.place
+use Rattle.geo_base.specs.Types.cluster_ref
 use Rattle.geo_base.specs.Client.{Acted, Client, becomes, stays}
 use Rattle.geo_base.specs.Entry.{with_origin}
-use Rattle.geo_base.specs.Position.{nowhere, same_position}
+use Rattle.geo_base.specs.Position.{no_position, same_position}
 use Rattle.geo_base.specs.Setup.{Declared}
 
 abbrev pub is_number : ℕ → Option ℕ → Bool
@@ -37,7 +37,7 @@ answered d k n counted = if list_any (publishes d n) k.unanswered then record co
 -- a receipt without a position is one of an entry that is stored
 abbrev pub is_duplicate : Option Position → Bool
 is_duplicate None = false
-is_duplicate (Some p) = same_position p nowhere
+is_duplicate (Some p) = same_position p no_position
 
 abbrev pub with_receipt : Client → Bool → Client
 with_receipt k true = record k { duplicates = k.duplicates + 1 }
@@ -52,10 +52,10 @@ received k id ident p =
     if is_number id k.sub then record k { held = k.held ++ record { ident = ident; position = p } ∷ []; got = k.got ++ ident ∷ [] } else k
 
 -- a message's origin is its replicated_from; without one the cluster that it came from stored it first
-abbrev pub got_message : Client → ℕ → Position → Option Place → Entry → Client
+abbrev pub got_message : Client → ℕ → Position → Option ClusterRef → Entry → Client
 got_message k id p None e = received k id (with_origin k.cluster e).ident p
-got_message k id p (Some (place.Known x)) e = received k id (with_origin x e).ident p
-got_message k id p (Some (place.Stranger name)) e = k
+got_message k id p (Some (cluster_ref.Known x)) e = received k id (with_origin x e).ident p
+got_message k id p (Some (cluster_ref.Stranger name)) e = k
 
 abbrev pub got_frame : Declared → Client → Frame → Client
 got_frame d k (frame.SendReceipt id n p) = answered d k n (with_receipt k (is_duplicate p))

@@ -82,7 +82,7 @@ happens s w (event.Get c) =
     if has_client s c then client_does s w c (Some link) (client_acted s (client_at s w c) (event.Get c) (next_packet (link_at w.links link))) else idles w
 happens s w e = does_planned s w (planned s w e)
 
--- a stop behind the first k durable writes of an event: its packet is taken, nothing is sent, the node starts again. It is
+-- a stop after the first k durable writes of an event: its packet is taken, nothing is sent, the node starts again. It is
 -- never idle (own)
 unfoldable pub broker_halts : Setup → World → ℕ → Planned → World
 broker_halts s w k p =

@@ -2,16 +2,16 @@
 -- its statement, named like the public function that carries it once it is proved. docs/LAWS.md reads them aloud.
 use Rattle.std.specs.Prelude.{◌≡◌, ℕ, suc, ◌+◌, ◌-◌, ◌*◌, ◌^◌, ◌<◌, ◌≤◌, ◌≢◌, nat_le, ◌==◌, Bool, true, false, not, ◌&&◌, if◌then◌else◌, List, [], ◌∷◌, ◌++◌, length, map, filter, sum, take, Option, Some, None, slice_get, slice_index_or}
 use Rattle.std.specs.List.{list_all}
-use Rattle.geo_base.specs.Types.{Builder, CachedSnapshot, ClusterPosition, Consumer, Entry, Event, Marker, Position, Step, SubKind}
+use Rattle.geo_base.specs.Types.{SnapshotBuilder, CachedSnapshot, ClusterPosition, Consumer, Entry, Event, Marker, Position, Step, SubKind}
 use Rattle.geo_base.specs.Types.content
 use Rattle.geo_base.specs.Types.event
 use Rattle.geo_base.specs.Types.marker
-use Rattle.geo_base.specs.Types.place
-use Rattle.geo_base.specs.Types.sender_state
+use Rattle.geo_base.specs.Types.cluster_ref
+use Rattle.geo_base.specs.Types.replicator_state
 use Rattle.geo_base.specs.Types.sub_kind
 use Rattle.geo_base.specs.Types.targets
-use Rattle.geo_base.specs.Broker.{Broker, sender_at, sub_named}
-use Rattle.geo_base.specs.Builder.{second_id}
+use Rattle.geo_base.specs.Broker.{Broker, replicator_at, sub_named}
+use Rattle.geo_base.specs.SnapshotBuilder.{second_id}
 use Rattle.geo_base.specs.Cache.{cut_of}
 use Rattle.geo_base.specs.Cursor.{has}
 use Rattle.geo_base.specs.Cuts.{IsCut}
@@ -44,7 +44,7 @@ pub record BetweenEvents (s : Setup) (Holds : World → Type 0) : Type 0 where
   pub limited : (l : Limits) (es : List Step) → Holds (run_under l s es).world
   pub between : (l : Limits) (es : List Step) (at : Settling) → Holds (world_between l s es at)
 
--- always, in one run: when its first k steps are done, and behind them a part of settling, and then a beginning of the durable
+-- always, in one run: when its first k steps are done, and after them a part of settling, and then a beginning of the durable
 -- writes of whatever event comes next
 pub record AlwaysIn (s : Setup) (es : List Step) (Holds : World → SettledSoFar → Type 0) : Type 0 where
   pub between : (k : ℕ) (at : Settling) → Holds (world_between no_limits s (take k es) at) (settled s (take k es))
@@ -85,7 +85,7 @@ LawPrefix = (s : Setup) → Always s (λ w settled. IsPrefix s w)
 
 abbrev pub IsReceived : Setup → World → Type 0
 IsReceived s w = (t x y i : ℕ) (e : Entry) → ArePair s x y
-    → has (sender_at (topic_at s w t x) y).cursor i ≡ true → IsEntry (topic_at s w t x) i e → is_outbound x y e ≡ true
+    → has (replicator_at (topic_at s w t x) y).cursor i ≡ true → IsEntry (topic_at s w t x) i e → is_outbound x y e ≡ true
     → (k : ℕ) × IsEntry (topic_at s w t y) k e
 
 abbrev pub LawReceipt : Type 0
@@ -108,7 +108,7 @@ pub record IsAnswer (s : Setup) (w : World) (t y j : ℕ) (e : Entry) (id : List
   pub within : asker < length s.clusters
   pub to : e.to ≡ targets.Only (2 ^ asker)
   pub index : ℕ
-  pub request : MarkerAt (topic_at s w t asker) index asker (marker.Request id (place.Known asker))
+  pub request : MarkerAt (topic_at s w t asker) index asker (marker.Request id (cluster_ref.Known asker))
 
 abbrev pub NamesPosition : Setup → World → Type 0
 NamesPosition s w = (t y j : ℕ) (id : List ℕ) (answer : ClusterPosition) → y < length s.clusters
@@ -121,7 +121,7 @@ LawPosition = (s : Setup) → Always s (λ w settled. NamesPosition s w)
 -- below the position that the builder keeps for y stands at c below j
 
 abbrev pub ComesAfter : Setup → World → Type 0
-ComesAfter s w = (t x c y j i l : ℕ) (u : Builder) (f : Entry) (answer : ClusterPosition) (p : Position) → ArePair s x y → ArePair s x c → ArePair s c y
+ComesAfter s w = (t x c y j i l : ℕ) (u : SnapshotBuilder) (f : Entry) (answer : ClusterPosition) (p : Position) → ArePair s x y → ArePair s x c → ArePair s c y
     → (topic_at s w t x).builder ≡ Some u → u.second ≡ true
     → MarkerAt (topic_at s w t c) j c (marker.Response (second_id u.id) answer)
     → slice_index_or u.cut.remote y None ≡ Some p → index_of (topic_at s w t y).ledgers p ≡ Some l
@@ -160,7 +160,7 @@ abbrev pub LawUpdate : Type 0
 LawUpdate = (s : Setup) → IsScripted s → Always s (λ w settled. IsShort w → NamesSettled s w settled)
 
 -- safe: (a) only what is settled is acknowledged, (b) each message stands once and in order, (c) nothing due is forgotten. The
--- last is of memory too, and an event changes memory only behind its writes
+-- last is of memory too, and an event changes memory only after its writes
 
 pub record LawSafe : Type 0 where
   pub settled : (s : Setup) → IsScripted s → Always s (λ w settled. IsShort w → OnlySettled s w settled)
@@ -231,10 +231,10 @@ pub record SettlesInTime (s : Setup) (w : World) : Type 0 where
   pub rounds : (after_settling s w).rounds ≤ w.rounds + budget s w
   pub busy : (k : ℕ) → is_quiet s (after_rounds k s w) ≡ false → (after_rounds k s w).events < (after_round s (after_rounds k s w)).events
 
--- of a pair: the sender is open and has acknowledged all, and y has what it is to have
+-- of a pair: the replicator is open and has acknowledged all, and y has what it is to have
 pub record IsComplete (s : Setup) (w : World) (t x y : ℕ) : Type 0 where
-  pub opened : (sender_at (topic_at s w t x) y).state ≡ sender_state.Open
-  pub acknowledged : (i : ℕ) → i < length (topic_at s w t x).entries → has (sender_at (topic_at s w t x) y).cursor i ≡ true
+  pub opened : (replicator_at (topic_at s w t x) y).state ≡ replicator_state.Open
+  pub acknowledged : (i : ℕ) → i < length (topic_at s w t x).entries → has (replicator_at (topic_at s w t x) y).cursor i ≡ true
   pub arrived : outbound x y (topic_at s w t x).entries ≡ of_origin x (topic_at s w t y).entries
 
 abbrev pub SettlesAll : Setup → World → Type 0

@@ -10,9 +10,9 @@ pub mod Ascending
 pub mod Link
 pub mod Sizes
 pub mod FrameSizes
-pub mod Sender
+pub mod Replicator
 pub mod Receiver
-pub mod Builder
+pub mod SnapshotBuilder
 pub mod Cache
 pub mod Subscription
 pub mod Dispatcher

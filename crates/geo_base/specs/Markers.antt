@@ -1,18 +1,18 @@
 -- Snapshots of replicated subscriptions (PIP-33): a request and its answers, and what a cluster does with a marker of another
--- one that its sender reads.
+-- one that its replicator reads.
 use Rattle.std.specs.Prelude.{ℕ, ◌-◌, ◌^◌, ◌&&◌, if◌then◌else◌, List, [], ◌∷◌, length, Option, Some, None, is_none}
 use Rattle.std.specs.List.{list_any}
-use Rattle.geo_base.specs.Types.{Builder, ClusterPosition, Content, Entry, Marker, Progress}
+use Rattle.geo_base.specs.Types.{SnapshotBuilder, ClusterPosition, Content, Entry, Marker, Progress}
 use Rattle.geo_base.specs.Types.change
 use Rattle.geo_base.specs.Types.content
 use Rattle.geo_base.specs.Types.marker
-use Rattle.geo_base.specs.Types.place
+use Rattle.geo_base.specs.Types.cluster_ref
 use Rattle.geo_base.specs.Types.progress
 use Rattle.geo_base.specs.Types.targets
 use Rattle.geo_base.specs.Types.write
 use Rattle.geo_base.specs.Broker.{Broker, Site, cluster_name}
-use Rattle.geo_base.specs.Builder.{Heard, current_id, named, on_response, snapshot_id, started}
-use Rattle.geo_base.specs.Entry.{is_place}
+use Rattle.geo_base.specs.SnapshotBuilder.{Heard, current_id, named, on_response, snapshot_id, started}
+use Rattle.geo_base.specs.Entry.{means_cluster}
 use Rattle.geo_base.specs.Plan.{Plan, idle_plan, plan_of}
 use Rattle.geo_base.specs.Storing.{own_marker}
 use Rattle.geo_base.specs.Subscription.{Subscription}
@@ -21,15 +21,15 @@ use Rattle.geo_base.specs.Updating.{handled, read_update}
 
 -- a request goes to all clusters, its answer to the one that asked, and the snapshot stays with the cluster that made it
 abbrev pub request_marker : Site → Broker → List ℕ → Entry
-request_marker h b id = own_marker h b (marker.Request id (place.Known h.own)) targets.All []
+request_marker h b id = own_marker h b (marker.Request id (cluster_ref.Known h.own)) targets.All []
 
 -- the answer names the last entry that was stored before it
 abbrev pub response_marker : Site → Broker → ℕ → List ℕ → Entry
 response_marker h b y id =
-    own_marker h b (marker.Response id (record { cluster = place.Known h.own; position = position_at b.ledgers (length b.entries - 1) }))
+    own_marker h b (marker.Response id (record { cluster = cluster_ref.Known h.own; position = position_at b.ledgers (length b.entries - 1) }))
     (targets.Only (2 ^ y)) (cluster_name h y ∷ [])
 
-abbrev pub snapshot_marker : Site → Broker → Builder → Entry
+abbrev pub snapshot_marker : Site → Broker → SnapshotBuilder → Entry
 snapshot_marker h b u = own_marker h b (marker.Snapshot u.id u.cut.local (named u.cut)) (targets.Only (2 ^ h.own)) (cluster_name h h.own ∷ [])
 
 -- snap: a request, and a builder in round one; only where a subscription is replicated and no snapshot is being made
@@ -43,7 +43,7 @@ snap h b =
     else idle_plan
 
 -- a response of y at index i has come to this: nothing, it counts, a second request, the snapshot
-abbrev pub after_response : Site → Broker → ℕ → ℕ → Progress → Builder → Plan
+abbrev pub after_response : Site → Broker → ℕ → ℕ → Progress → SnapshotBuilder → Plan
 after_response h b y i progress.Ignored u = handled y i [] []
 after_response h b y i progress.Kept u = handled y i [] (change.Building (Some u) ∷ [])
 after_response h b y i progress.SecondRound u = handled y i (write.Append (request_marker h b (current_id u)) ∷ []) (change.Building (Some u) ∷ [])
@@ -53,10 +53,10 @@ abbrev pub heard_from : Site → Broker → ℕ → ℕ → Heard → Plan
 heard_from h b y i r = after_response h b y i r.progress r.builder
 
 -- a response that names another cluster than y has no effect
-abbrev pub read_response : Site → Broker → ℕ → ℕ → List ℕ → ClusterPosition → Option Builder → Plan
+abbrev pub read_response : Site → Broker → ℕ → ℕ → List ℕ → ClusterPosition → Option SnapshotBuilder → Plan
 read_response h b y i id answer None = handled y i [] []
 read_response h b y i id answer (Some u) =
-    if is_place y answer.cluster then heard_from h b y i (on_response u id y answer.position (position_at b.ledgers i)) else handled y i [] []
+    if means_cluster y answer.cluster then heard_from h b y i (on_response u id y answer.position (position_at b.ledgers i)) else handled y i [] []
 
 -- a marker of y at index i. Its snapshots are its own affair
 abbrev pub read_marker : Site → Broker → ℕ → ℕ → Marker → Plan

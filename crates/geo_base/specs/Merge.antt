@@ -51,7 +51,7 @@ abbrev pub BeforeAll : Merged → List Merged → Type 0
 BeforeAll a [] = Unit {0}
 BeforeAll a (b ∷ bs) = (comes_before a b ≡ true) × BeforeAll a bs
 
--- each comes before all behind it
+-- each comes before all after it
 abbrev pub IsOrdered : List Merged → Type 0
 IsOrdered [] = Unit {0}
 IsOrdered (a ∷ as') = BeforeAll a as' × IsOrdered as'

@@ -41,14 +41,14 @@ all_changed b (c ∷ cs) = all_changed (changed b c) cs
 abbrev pub done : ℕ → Broker → Plan → Broker
 done per b p = all_changed (all_written per b p.writes) p.changes
 
--- the state after a stop behind the first k durable writes of an event: what they wrote stays, memory is lost, nothing is
+-- the state after a stop after the first k durable writes of an event: what they wrote stays, memory is lost, nothing is
 -- sent, and a new ledger opens, as at every start after the first (own, as a broker of Pulsar appends to no ledger that
 -- another start of it wrote)
 abbrev pub halted : ℕ → Broker → ℕ → Plan → Broker
 halted per b k p = changed (all_written per b (take k p.writes ++ write.Ledger ∷ [])) change.Forget
 
--- an action done twice in a row, as one plan: the second time it looks at the state after the first. Writes behind writes
--- and changes behind changes are the two acts one after the other, since the writes of the second look at nothing that the
+-- an action done twice in a row, as one plan: the second time it looks at the state after the first. Writes after writes
+-- and changes after changes are the two acts one after the other, since the writes of the second look at nothing that the
 -- changes of the first touch (own: it lets a stop in a repeated packet be a beginning of one list, too)
 abbrev pub twice : ℕ → Broker → (Broker → Plan) → Plan
 twice per b f =

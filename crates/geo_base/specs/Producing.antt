@@ -2,7 +2,7 @@
 use Rattle.std.specs.Prelude.{ℕ, ◌+◌, nat_le, ◌==◌, Bool, false, not, ◌&&◌, ◌||◌, if◌then◌else◌, List, [], ◌∷◌, ◌++◌, length, filter, take, Option, Some, None, is_none, is_some, codes}
 use Rattle.std.specs.List.{list_any}
 use Rattle.std.specs.Str.{bytes_eq}
-use Rattle.geo_base.specs.Types.{AttachedProducer, Change, Entry, Place, Session}
+use Rattle.geo_base.specs.Types.{AttachedProducer, Change, Entry, ClusterRef, Session}
 use Rattle.geo_base.specs.Types.change
 use Rattle.geo_base.specs.Types.frame
 use Rattle.geo_base.specs.Answers.{answer, answers, producer_busy, refuses, succeeds, unknown_error}
@@ -54,14 +54,14 @@ serve_producer h b c s topic id request (Some n) =
 
 -- a message that the producer of this name may publish: metadata and command agree, no cluster stored it before, it is no
 -- marker, and it is not too large
-abbrev pub is_sound : Site → List ℕ → ℕ → Option Place → Entry → Bool
+abbrev pub is_sound : Site → List ℕ → ℕ → Option ClusterRef → Entry → Bool
 is_sound h n seq source e =
     bytes_eq n e.ident.producer && (seq == e.ident.seq) && is_none source && is_data e.content && nat_le (entry_size h.clusters e) most_entry_size
 
 abbrev pub stores : Site → Broker → ℕ → Session → ℕ → ℕ → Entry → Plan
 stores h b c s id seq e = plan_of (storing b e) [] (answer c s (frame.SendReceipt id seq (receipt_position h.per_ledger b e)))
 
-abbrev pub serve_send : Site → Broker → ℕ → Session → ℕ → ℕ → Option Place → Entry → Option (List ℕ) → Plan
+abbrev pub serve_send : Site → Broker → ℕ → Session → ℕ → ℕ → Option ClusterRef → Entry → Option (List ℕ) → Plan
 serve_send h b c s id seq source e None = answers c s (frame.SendError id seq unknown_error)
 serve_send h b c s id seq source e (Some n) =
     if is_sound h n seq source e then stores h b c s id seq (with_origin h.own e) else answers c s (frame.SendError id seq unknown_error)

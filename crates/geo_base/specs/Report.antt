@@ -1,17 +1,17 @@
 -- The report of a world, line by line (own).
 use Rattle.std.specs.Prelude.{ℕ, ◌+◌, nat_lt, nat_le, ◌==◌, Bool, true, false, ◌&&◌, if◌then◌else◌, List, [], ◌∷◌, ◌++◌, length, map, Option, Some, None, slice_index_or, codes, decimal}
-use Rattle.geo_base.specs.Types.{ClusterPosition, Content, Entry, Ident, Marker, Position, SenderState, SubKind, Targets}
+use Rattle.geo_base.specs.Types.{ClusterPosition, Content, Entry, Ident, Marker, Position, ReplicatorState, SubKind, Targets}
 use Rattle.geo_base.specs.Types.content
 use Rattle.geo_base.specs.Types.marker
-use Rattle.geo_base.specs.Types.sender_state
+use Rattle.geo_base.specs.Types.replicator_state
 use Rattle.geo_base.specs.Types.sub_kind
 use Rattle.geo_base.specs.Types.targets
 use Rattle.geo_base.specs.Broker.{Broker, backlog}
 use Rattle.geo_base.specs.Client.{Client, target_names}
 use Rattle.geo_base.specs.Cursor.{mark}
-use Rattle.geo_base.specs.Sender.{Sender}
+use Rattle.geo_base.specs.Replicator.{Replicator}
 use Rattle.geo_base.specs.Setup.{Declared, Setup}
-use Rattle.geo_base.specs.Sizes.{place_name}
+use Rattle.geo_base.specs.Sizes.{cluster_ref_name}
 use Rattle.geo_base.specs.Subscription.{Subscription}
 use Rattle.geo_base.specs.Topic.{position_at}
 use Rattle.geo_base.specs.World.{World, client_at, topic_at}
@@ -36,7 +36,7 @@ abbrev pub shown_position : Position → List ℕ
 shown_position p = decimal p.ledger ++ (58 ∷ decimal p.entry)
 
 abbrev pub shown_cluster_position : List (List ℕ) → ClusterPosition → List ℕ
-shown_cluster_position names r = printed (place_name names r.cluster) ++ (61 ∷ shown_position r.position)
+shown_cluster_position names r = printed (cluster_ref_name names r.cluster) ++ (61 ∷ shown_position r.position)
 
 abbrev pub shown_targets : List (List ℕ) → Targets → List ℕ
 shown_targets names targets.All = codes "*"
@@ -47,7 +47,7 @@ shown_key None = codes "-"
 shown_key (Some k) = printed k
 
 abbrev pub shown_marker : List (List ℕ) → Marker → List (List ℕ)
-shown_marker names (marker.Request id source) = codes "request" ∷ printed id ∷ printed (place_name names source) ∷ []
+shown_marker names (marker.Request id source) = codes "request" ∷ printed id ∷ printed (cluster_ref_name names source) ∷ []
 shown_marker names (marker.Response id answer) = codes "response" ∷ printed id ∷ shown_cluster_position names answer ∷ []
 shown_marker names (marker.Snapshot id local remote) = codes "snapshot" ∷ printed id ∷ shown_position local ∷ map (shown_cluster_position names) remote
 shown_marker names (marker.Update n remote) = codes "update" ∷ printed n ∷ map (shown_cluster_position names) remote
@@ -67,19 +67,19 @@ abbrev pub entry_lines : List (List ℕ) → List ℕ → ℕ → List Entry →
 entry_lines names ledgers i [] = []
 entry_lines names ledgers i (e ∷ es) = entry_line names (position_at ledgers i) e ∷ entry_lines names ledgers (i + 1) es
 
-abbrev pub shown_state : SenderState → List ℕ
-shown_state sender_state.Closed = codes "closed"
-shown_state sender_state.Opening = codes "opening"
-shown_state sender_state.Open = codes "open"
+abbrev pub shown_state : ReplicatorState → List ℕ
+shown_state replicator_state.Closed = codes "closed"
+shown_state replicator_state.Opening = codes "opening"
+shown_state replicator_state.Open = codes "open"
 
-abbrev pub sender_line : List ℕ → Sender → List ℕ
-sender_line name s = words (codes "sender" ∷ name ∷ codes "session" ∷ decimal s.session ∷ shown_state s.state ∷ codes "mark" ∷ decimal (mark s.cursor) ∷ [])
+abbrev pub replicator_line : List ℕ → Replicator → List ℕ
+replicator_line name s = words (codes "sender" ∷ name ∷ codes "session" ∷ decimal s.session ∷ shown_state s.state ∷ codes "mark" ∷ decimal (mark s.cursor) ∷ [])
 
 -- for each other cluster, y being the number of the first one of the lists
-abbrev pub sender_lines : ℕ → ℕ → List (List ℕ) → List Sender → List (List ℕ)
-sender_lines own y [] ss = []
-sender_lines own y (n ∷ ns) [] = []
-sender_lines own y (n ∷ ns) (s ∷ ss) = if own == y then sender_lines own (y + 1) ns ss else sender_line n s ∷ sender_lines own (y + 1) ns ss
+abbrev pub replicator_lines : ℕ → ℕ → List (List ℕ) → List Replicator → List (List ℕ)
+replicator_lines own y [] ss = []
+replicator_lines own y (n ∷ ns) [] = []
+replicator_lines own y (n ∷ ns) (s ∷ ss) = if own == y then replicator_lines own (y + 1) ns ss else replicator_line n s ∷ replicator_lines own (y + 1) ns ss
 
 abbrev pub shown_kind : SubKind → List ℕ
 shown_kind sub_kind.Exclusive = codes "exclusive"
@@ -99,7 +99,7 @@ sub_line b s = words (codes "sub" ∷ s.name ∷ shown_kind s.kind ∷ shown_rep
     ∷ codes "mark" ∷ decimal (mark s.cursor) ∷ codes "backlog" ∷ decimal (backlog b s) ∷ shown_seeks s.seeks)
 
 abbrev pub broker_lines : List (List ℕ) → ℕ → Broker → List (List ℕ)
-broker_lines names x b = entry_lines names b.ledgers 0 b.entries ++ (sender_lines x 0 names b.senders ++ map (sub_line b) b.subs)
+broker_lines names x b = entry_lines names b.ledgers 0 b.entries ++ (replicator_lines x 0 names b.replicators ++ map (sub_line b) b.subs)
 
 -- of topic t, whose name is topic, at each cluster from x on
 abbrev pub cluster_lines : Setup → World → ℕ → List ℕ → ℕ → List (List ℕ) → List (List ℕ)

@@ -1,7 +1,7 @@
 -- What is safe: only what is settled is acknowledged, each message stands once and in order, and nothing due is forgotten.
 use Rattle.std.specs.Prelude.{◌≡◌, ℕ, ◌<◌, nat_le, ◌==◌, Bool, true, false, ◌&&◌, ◌||◌, length, Some, slice_get}
 use Rattle.std.specs.List.{list_any}
-use Rattle.geo_base.specs.Types.{Entry, Outstanding}
+use Rattle.geo_base.specs.Types.{Entry, Unacked}
 use Rattle.geo_base.specs.Broker.{Broker}
 use Rattle.geo_base.specs.Cursor.{has}
 use Rattle.geo_base.specs.Entry.{is_data, same_stream}
@@ -33,14 +33,14 @@ AllOnce w = (n : ℕ) → IsOnce (broker_at w n)
 -- (c) of a subscription: what is outside the cursor is out with a consumer that is attached, due again or still to be read, and
 -- what is inside is neither out nor due again
 abbrev pub is_out : Subscription → ℕ → Bool
-is_out v i = list_any (λ (o : Outstanding). (o.index == i) && is_attached o.client v) v.out
+is_out v i = list_any (λ (o : Unacked). (o.index == i) && is_attached o.client v) v.out
 
 abbrev pub is_kept : Subscription → ℕ → Bool
 is_kept v i = is_out v i || (has v.due i || nat_le v.read_index i)
 
 pub record NothingForgottenOn (b : Broker) (v : Subscription) : Type 0 where
   pub outside : (i : ℕ) → i < length b.entries → has v.cursor i ≡ false → is_kept v i ≡ true
-  pub inside : (i : ℕ) → has v.cursor i ≡ true → (list_any (λ (o : Outstanding). o.index == i) v.out || has v.due i) ≡ false
+  pub inside : (i : ℕ) → has v.cursor i ≡ true → (list_any (λ (o : Unacked). o.index == i) v.out || has v.due i) ≡ false
 
 abbrev pub NothingForgotten : World → Type 0
 NothingForgotten w = (n : ℕ) (v : Subscription) → IsSub (broker_at w n) v → NothingForgottenOn (broker_at w n) v

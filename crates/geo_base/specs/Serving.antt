@@ -31,7 +31,7 @@ serve_command h b c s frame.Pong = quiet_plan []
 serve_command h b c s f = quiet_plan (session_becomes c None)
 
 -- The first of these that applies holds (own). CONNECT opens the packet's session: it comes first, since no session is open
--- before it. A frame that cannot be read closes whatever is open: nobody can tell what it asked, so nothing behind it may
+-- before it. A frame that cannot be read closes whatever is open: nobody can tell what it asked, so nothing after it may
 -- count. What comes in another session is discarded: it was sent on a connection that has ended. Then the command is done
 abbrev pub serve_frame : Site → Broker → ℕ → Packet → Frame → Plan
 serve_frame h b c p frame.Connect =

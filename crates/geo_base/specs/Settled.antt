@@ -121,7 +121,7 @@ settled_event s w t n (event.Seek u x m to) =
     else []
 settled_event s w t n e = []
 
--- behind the first k of its durable writes: as much, once there is one
+-- after the first k of its durable writes: as much, once there is one
 abbrev pub settled_behind : ℕ → Setup → World → ℕ → List ℕ → Event → List Ident
 settled_behind k s w t n e = if nat_lt 0 k then settled_event s w t n e else []
 

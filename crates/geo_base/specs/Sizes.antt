@@ -2,10 +2,10 @@
 -- those of PulsarApi.proto and PulsarMarkers.proto, but for marker_type, whose number 20 is own).
 -- All fields here have numbers below 2048 and lengths below 2 ^ 63.
 use Rattle.std.specs.Prelude.{ℕ, zero, suc, ◌+◌, ◌*◌, ◌/◌, nat_lt, if◌then◌else◌, List, [], ◌∷◌, length, Option, Some, None, slice_index_or}
-use Rattle.geo_base.specs.Types.{ClusterPosition, Content, Entry, Marker, Place, Position}
+use Rattle.geo_base.specs.Types.{ClusterPosition, Content, Entry, Marker, ClusterRef, Position}
 use Rattle.geo_base.specs.Types.content
 use Rattle.geo_base.specs.Types.marker
-use Rattle.geo_base.specs.Types.place
+use Rattle.geo_base.specs.Types.cluster_ref
 
 -- the bytes of a varint: groups of seven bits, at most ten for 64
 abbrev pub varint_groups : ℕ → ℕ → ℕ
@@ -38,9 +38,9 @@ repeated_text field [] = 0
 repeated_text field (t ∷ ts) = text_field field t + repeated_text field ts
 
 -- the name that a place is written by
-abbrev pub place_name : List (List ℕ) → Place → List ℕ
-place_name names (place.Known x) = slice_index_or names x []
-place_name names (place.Stranger n) = n
+abbrev pub cluster_ref_name : List (List ℕ) → ClusterRef → List ℕ
+cluster_ref_name names (cluster_ref.Known x) = slice_index_or names x []
+cluster_ref_name names (cluster_ref.Stranger n) = n
 
 -- MessageIdData and MarkersMessageIdData
 abbrev pub position_size : Position → ℕ
@@ -48,19 +48,19 @@ position_size p = number_field 1 p.ledger + number_field 2 p.entry
 
 -- ClusterMessageId
 abbrev pub cluster_position_size : List (List ℕ) → ClusterPosition → ℕ
-cluster_position_size names r = text_field 1 (place_name names r.cluster) + bytes_field 2 (position_size r.position)
+cluster_position_size names r = text_field 1 (cluster_ref_name names r.cluster) + bytes_field 2 (position_size r.position)
 
 abbrev pub cluster_positions : List (List ℕ) → ℕ → List ClusterPosition → ℕ
 cluster_positions names field [] = 0
 cluster_positions names field (r ∷ rs) = bytes_field field (cluster_position_size names r) + cluster_positions names field rs
 
 abbrev pub marker_size : List (List ℕ) → Marker → ℕ
-marker_size names (marker.Request id source) = text_field 1 id + text_field 2 (place_name names source)
+marker_size names (marker.Request id source) = text_field 1 id + text_field 2 (cluster_ref_name names source)
 marker_size names (marker.Response id answer) = text_field 1 id + bytes_field 2 (cluster_position_size names answer)
 marker_size names (marker.Snapshot id local remote) = text_field 1 id + (bytes_field 2 (position_size local) + cluster_positions names 3 remote)
 marker_size names (marker.Update sub remote) = text_field 1 sub + cluster_positions names 2 remote
 
--- the marker types of this profile (own)
+-- the marker types (those of PulsarMarkers.proto, as known and not looked up)
 abbrev pub marker_type : Marker → ℕ
 marker_type (marker.Request id source) = 10
 marker_type (marker.Response id answer) = 11

@@ -6,11 +6,11 @@ use Rattle.geo_base.specs.Types.marker
 use Rattle.geo_base.specs.Types.targets
 use Rattle.geo_base.specs.Types.write
 use Rattle.geo_base.specs.Broker.{Broker, Site}
-use Rattle.geo_base.specs.Builder.{named}
+use Rattle.geo_base.specs.SnapshotBuilder.{named}
 use Rattle.geo_base.specs.Cache.{last_passed}
 use Rattle.geo_base.specs.Cursor.{mark}
 use Rattle.geo_base.specs.Entry.{marker_producer}
-use Rattle.geo_base.specs.Position.{nowhere}
+use Rattle.geo_base.specs.Position.{no_position}
 use Rattle.geo_base.specs.Subscription.{Subscription, sought, with_acks}
 use Rattle.geo_base.specs.Topic.{accepts, next_marker, next_position}
 
@@ -18,9 +18,9 @@ use Rattle.geo_base.specs.Topic.{accepts, next_marker, next_position}
 abbrev pub storing : Broker → Entry → List Write
 storing b e = if accepts b.entries e.ident then write.Append e ∷ [] else []
 
--- its receipt names its position, or nowhere where it is a duplicate
+-- its receipt names its position, or no_position where it is a duplicate
 abbrev pub receipt_position : ℕ → Broker → Entry → Option Position
-receipt_position per b e = Some (if accepts b.entries e.ident then next_position per b.ledgers else nowhere)
+receipt_position per b e = Some (if accepts b.entries e.ident then next_position per b.ledgers else no_position)
 
 -- a marker that this cluster writes, for the targets of these names
 abbrev pub own_marker : Site → Broker → Marker → Targets → List (List ℕ) → Entry

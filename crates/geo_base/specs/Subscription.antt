@@ -1,7 +1,7 @@
 -- A subscription at one cluster, and what its consumers' coming and going and its cursor's writes do to it.
 use Rattle.std.specs.Prelude.{ℕ, ◌+◌, min, ◌==◌, Bool, not, ◌&&◌, if◌then◌else◌, List, [], ◌∷◌, ◌++◌, map, filter}
 use Rattle.std.specs.List.{list_any}
-use Rattle.geo_base.specs.Types.{CachedSnapshot, Consumer, Outstanding, SubKind}
+use Rattle.geo_base.specs.Types.{CachedSnapshot, Consumer, Unacked, SubKind}
 use Rattle.geo_base.specs.Cache.{not_passed}
 use Rattle.geo_base.specs.Cursor.{below, has, mark, with_indexes}
 
@@ -14,7 +14,7 @@ pub record Subscription : Type 0 where
   pub cursor : List ℕ
   pub seeks : ℕ
   pub consumers : List Consumer
-  pub out : List Outstanding
+  pub out : List Unacked
   pub due : List ℕ
   pub read_index : ℕ
   pub cache : List CachedSnapshot
@@ -42,7 +42,7 @@ abbrev pub attached : Consumer → Subscription → Subscription
 attached k s = record s { consumers = s.consumers ++ k ∷ [] }
 
 -- the indexes that are out with a client
-abbrev pub out_with : ℕ → List Outstanding → List ℕ
+abbrev pub out_with : ℕ → List Unacked → List ℕ
 out_with c [] = []
 out_with c (o ∷ os) = if o.client == c then o.index ∷ out_with c os else out_with c os
 
@@ -51,7 +51,7 @@ out_with c (o ∷ os) = if o.client == c then o.index ∷ out_with c os else out
 abbrev pub detached : ℕ → Subscription → Subscription
 detached c s = record s {
   consumers = filter (λ (k : Consumer). not (is_of c k)) s.consumers;
-  out = filter (λ (o : Outstanding). not (o.client == c)) s.out;
+  out = filter (λ (o : Unacked). not (o.client == c)) s.out;
   due = with_indexes s.due (filter (λ i. not (has s.cursor i)) (out_with c s.out));
 }
 
@@ -73,7 +73,7 @@ sought i s = record s { cursor = below i; seeks = s.seeks + 1 }
 -- acknowledged indexes are neither out nor due
 abbrev pub forgotten : Subscription → Subscription
 forgotten s = record s {
-  out = filter (λ (o : Outstanding). not (has s.cursor o.index)) s.out;
+  out = filter (λ (o : Unacked). not (has s.cursor o.index)) s.out;
   due = filter (λ i. not (has s.cursor i)) s.due;
 }
 

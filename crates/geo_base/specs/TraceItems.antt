@@ -6,7 +6,7 @@ use Rattle.geo_base.specs.Types.{Cause, ClusterPosition, Entry, Position}
 use Rattle.geo_base.specs.Position.{same_position}
 use Rattle.geo_base.specs.Updating.{positions_for}
 
--- One durable write. An append has the entry's position, and behind an update of the own cluster the position of the snapshot
+-- One durable write. An append has the entry's position, and after an update of the own cluster the position of the snapshot
 -- marker that it tells. A creation says whether it is at Latest. Acks are the indexes that a cursor gained, ascending, and why:
 -- a client's, a marker's or an update's. A seek has the index that is the cursor's next one
 pub data Act : Type 0 where

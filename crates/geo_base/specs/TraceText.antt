@@ -60,6 +60,6 @@ unfoldable pub item_line : Setup → Item → List ℕ
 item_line s (Begins n) = words (codes "event" ∷ decimal n ∷ [])
 item_line s (Writes t x a) = words (act_words s (slice_index_or s.topics t []) (slice_index_or s.clusters x []) a)
 
--- the lines of a trace behind its declarations
+-- the lines of a trace after its declarations
 abbrev pub trace_lines : Setup → List Item → List (List ℕ)
 trace_lines s is = codes "trace" ∷ map (item_line s) is

@@ -1,4 +1,4 @@
--- What a trace tells of a run (own): each event that was not idle, by its number, and behind it what the event wrote durably of
+-- What a trace tells of a run (own): each event that was not idle, by its number, and after it what the event wrote durably of
 -- topics and of subscriptions with their cursors.
 use Rattle.std.specs.Prelude.{ℕ, zero, suc, ◌+◌, ◌==◌, true, false, not, ◌&&◌, ◌||◌, if◌then◌else◌, List, [], ◌∷◌, ◌++◌, length, map, filter, take, Option, Some, None, is_some}
 use Rattle.geo_base.specs.declared.planned.Planned.{Planned as PlannedWrite}
@@ -9,13 +9,13 @@ use Rattle.geo_base.specs.Types.event
 use Rattle.geo_base.specs.Types.marker
 use Rattle.geo_base.specs.Types.step
 use Rattle.geo_base.specs.Types.write
-use Rattle.geo_base.specs.Broker.{Broker, Site, sender_at, sub_named, written}
+use Rattle.geo_base.specs.Broker.{Broker, Site, replicator_at, sub_named, written}
 use Rattle.geo_base.specs.Cursor.{has, with_indexes}
 use Rattle.geo_base.specs.Happening.{halts_planned}
 use Rattle.geo_base.specs.Planned.{Planned, planned}
 use Rattle.geo_base.specs.Position.{position_lt}
 use Rattle.geo_base.specs.Run.{Limits, Ran, all_settle, budget, counting_round, is_idle, pairs, resets_of, round_of, settles, steps}
-use Rattle.geo_base.specs.Sender.{index_to_read}
+use Rattle.geo_base.specs.Replicator.{index_to_read}
 use Rattle.geo_base.specs.Setup.{Setup}
 use Rattle.geo_base.specs.Subscription.{Subscription}
 use Rattle.geo_base.specs.Topic.{next_position, position_at}
@@ -70,7 +70,7 @@ cursor_of (Some v) = v.cursor
 abbrev pub gained : List ℕ → List ℕ → List ℕ
 gained set is = filter (λ i. not (has set i)) (with_indexes [] is)
 
--- b is the broker before the write. A new kind or flag, a sender's cursor, a session's number and a new ledger are not told
+-- b is the broker before the write. A new kind or flag, a replicator's cursor, a session's number and a new ledger are not told
 abbrev pub act_of : Site → Cause → Broker → Write → List Act
 act_of h c b (write.Append e) = Appends (next_position h.per_ledger b.ledgers) e (snapshot_told h b e e.content) ∷ []
 act_of h c b (write.Create n kind replicated latest) = Creates n latest ∷ []
@@ -85,7 +85,7 @@ acts_of h c b (w ∷ ws) = act_of h c b w ++ acts_of h c (written h.per_ledger b
 
 -- ---- why an event acknowledges
 
--- where the entry stands that a sender reads; where it reads none it writes nothing
+-- where the entry stands that a replicator reads; where it reads none it writes nothing
 abbrev pub position_read : Broker → Option ℕ → Position
 position_read b None = record { ledger = 0; entry = 0 }
 position_read b (Some i) = position_at b.ledgers i
@@ -94,7 +94,7 @@ position_read b (Some i) = position_at b.ledgers i
 -- other event only what a client's packet says
 abbrev pub cause_of : Broker → Event → Cause
 cause_of b (event.Offer t x n) = cause.Marker
-cause_of b (event.Read t x y) = cause.Update (position_read b (index_to_read (sender_at b y).state (sender_at b y) (length b.entries)))
+cause_of b (event.Read t x y) = cause.Update (position_read b (index_to_read (replicator_at b y).state (replicator_at b y) (length b.entries)))
 cause_of b e = cause.Client
 
 -- the cause of one write of an event that acknowledges for c
@@ -125,7 +125,7 @@ all_writes (Some p) = length p.plan.writes
 unfoldable pub event_items : Setup → World → Event → List Item
 event_items s w e = if is_idle s w e then [] else Begins (w.events + 1) ∷ planned_items s w (all_writes (planned s w e)) e (planned s w e)
 
--- a stop behind its first k writes is one event
+-- a stop after its first k writes is one event
 unfoldable pub halt_items : Setup → World → ℕ → Event → List Item
 halt_items s w k e =
     if (halts_planned s w k (planned s w e)).events == w.events then [] else Begins (w.events + 1) ∷ planned_items s w k e (planned s w e)

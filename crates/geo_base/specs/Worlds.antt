@@ -6,7 +6,7 @@ use Rattle.geo_base.specs.World.{World, broker_at}
 
 -- a broker has a place for each cluster and each client of the setup
 pub record BrokerPlaces (s : Setup) (b : Broker) : Type 0 where
-  pub senders : length b.senders ≡ length s.clusters
+  pub replicators : length b.replicators ≡ length s.clusters
   pub receivers : length b.receivers ≡ length s.clusters
   pub sessions : length b.sessions ≡ length s.clients
 

@@ -1,7 +1,7 @@
 //! What a broker changes in memory.
 use crate::consumer::Consumer;
 use crate::session::Session;
-use crate::snapshot::{Builder, CachedSnapshot};
+use crate::snapshot::{CachedSnapshot, SnapshotBuilder};
 use crate::text::Text;
 
 /// One change in memory.
@@ -33,7 +33,7 @@ pub enum Change {
         permits: u64,
     },
     /// An index was offered to no consumer, being a marker's.
-    Passed {
+    Skipped {
         sub: Text,
         index: u64,
     },
@@ -56,7 +56,7 @@ pub enum Change {
     Cleared {
         sub: Text,
     },
-    /// A sender has a new session, which the other side has not opened yet.
+    /// A replicator has a new session, which the other side has not opened yet.
     Opening {
         remote: u32,
     },
@@ -69,7 +69,7 @@ pub enum Change {
         remote: u32,
         index: u64,
     },
-    /// A sender has read what stands below an index.
+    /// A replicator has read what stands below an index.
     ReadTo {
         remote: u32,
         index: u64,
@@ -81,7 +81,7 @@ pub enum Change {
     },
     /// The snapshot that is being made.
     Building {
-        builder: Option<Builder>,
+        builder: Option<SnapshotBuilder>,
     },
     /// A restart: all of this is lost.
     Forget,

@@ -10,7 +10,7 @@ pub struct Consumer {
 
 /// An index that is out with a client's consumer: given to it and not acknowledged.
 #[derive(Clone, Copy, Drop, PartialEq, Eq)]
-pub struct Outstanding {
+pub struct Unacked {
     pub index: u64,
     pub client: u32,
 }

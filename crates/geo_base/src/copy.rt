@@ -3,7 +3,7 @@ ghost use Rattle.std.specs.Prelude.{◌≡◌, IfOk};
 ghost use Rattle.std.specs.Option.{option_copied};
 
 use crate::entry::{Content, Entry, Ident};
-use crate::marker::{BoxedMarker, ClusterPosition, Marker, Place};
+use crate::marker::{BoxedMarker, ClusterPosition, ClusterRef, Marker};
 use crate::memory::Memory;
 use crate::position::Position;
 use crate::sequence::Sequence;
@@ -45,14 +45,14 @@ impl Sequence<Text> {
     }
 }
 
-impl Place {
+impl ClusterRef {
     /// A copy.
-    pub fn copy(&self, alloc: Global) -> Result<Place, Memory>
+    pub fn copy(&self, alloc: Global) -> Result<ClusterRef, Memory>
         ensures { IfOk result (λ c. c ≡ self.now) }
     {
         match self {
-            Place::Known(cluster) => Ok(Place::Known(*cluster)),
-            Place::Stranger(name) => Ok(Place::Stranger(name.copy(alloc)?)),
+            ClusterRef::Known(cluster) => Ok(ClusterRef::Known(*cluster)),
+            ClusterRef::Stranger(name) => Ok(ClusterRef::Stranger(name.copy(alloc)?)),
         }
     }
 }

@@ -1,6 +1,6 @@
 //! What a packet carries: one command, with an entry where it has a payload (BaseCommand in PulsarApi.proto).
 use crate::entry::Entry;
-use crate::marker::Place;
+use crate::marker::ClusterRef;
 use crate::position::Position;
 use crate::sequence::Sequence;
 use crate::text::Text;
@@ -45,7 +45,7 @@ pub enum Frame {
     Send {
         id: u64,
         seq: u64,
-        source: Option<Place>,
+        source: Option<ClusterRef>,
         entry: Entry,
     },
     SendReceipt {
@@ -61,7 +61,7 @@ pub enum Frame {
     Message {
         id: u64,
         position: Position,
-        source: Option<Place>,
+        source: Option<ClusterRef>,
         entry: Entry,
     },
     Ack {

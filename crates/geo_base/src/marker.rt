@@ -11,7 +11,7 @@ use std::marker::Model;
 
 /// What a cluster's name in a marker or in `replicated_from` means: a cluster by its number, or a name that no cluster has.
 #[derive(Drop)]
-pub enum Place {
+pub enum ClusterRef {
     Known(u32),
     Stranger(Text),
 }
@@ -19,7 +19,7 @@ pub enum Place {
 /// A cluster and a position in its topic (ClusterMessageId).
 #[derive(Drop)]
 pub struct ClusterPosition {
-    pub cluster: Place,
+    pub cluster: ClusterRef,
     pub position: Position,
 }
 
@@ -28,7 +28,7 @@ pub struct ClusterPosition {
 pub enum Marker {
     Request {
         id: Text,
-        source: Place,
+        source: ClusterRef,
     },
     Response {
         id: Text,

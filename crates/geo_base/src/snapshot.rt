@@ -19,7 +19,7 @@ pub struct CachedSnapshot {
 
 /// A snapshot that is being made. `id` is that of its first round, `heard` are the clusters that answered in this round.
 #[derive(Drop)]
-pub struct Builder {
+pub struct SnapshotBuilder {
     pub id: Text,
     pub own: u32,
     pub clusters: u32,

@@ -4,7 +4,7 @@ use crate::frame::SubKind;
 use crate::sequence::Sequence;
 use crate::text::Text;
 
-/// One durable write. `Acks` and `SenderAck` say which indexes a cursor gains, `Seek` that a cursor becomes all below an index.
+/// One durable write. `Acks` and `ReplicatorAck` say which indexes a cursor gains, `Seek` that a cursor becomes all below an index.
 #[derive(Drop)]
 pub enum Write {
     Append(Entry),
@@ -30,7 +30,7 @@ pub enum Write {
         sub: Text,
         below: u64,
     },
-    SenderAck {
+    ReplicatorAck {
         remote: u32,
         index: u64,
     },

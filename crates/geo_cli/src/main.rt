@@ -50,7 +50,7 @@ fn answer<R: Threads + Wait + Sync, T: Read, W: Write>(
     geo_main(rt, alloc, words, source, sink, &OpenGate)
 }
 
-/// The words behind the program's name. None where an argument is no UTF-8 text: no command has such a word, so the answer is
+/// The words after the program's name. None where an argument is no UTF-8 text: no command has such a word, so the answer is
 /// that of words that are no command.
 fn words<R: Env + AllocGlobal>(rt: &R) -> io::Result<Vec<Word>> {
     let mut words = Vec::new(rt.alloc());

@@ -1,15 +1,15 @@
-//! Does many runs in one. The input has each script behind a line `== NAME`; the output has that line again, and behind it what the
+//! Does many runs in one. The input has each script after a line `== NAME`; the output has that line again, and after it what the
 //! program writes for the script: its report, or the line that refuses it. Lines before the first `== NAME` are left out.
 //!
-//! Behind `== compact HORIZON NAME` the compacted views of the script's run are shown, and behind `== tiered KEEP NAME` its entries, read
-//! back from ledgers that moved; behind `== save NAME` the script's run is saved, and the state file shown in hexadecimal; behind
-//! `== resume NAME` an input of `resume` stands in hexadecimal, of which the report or the refusal is shown, and behind `== cuts NAME`
-//! one of which each beginning is answered; behind `== stop NAME` a script is saved where its first `stop` line stands, and the run goes
-//! on from that file with the lines behind it. Behind `== ask NAME WORD..` an input of the command of these words stands in hexadecimal,
+//! After `== compact HORIZON NAME` the compacted views of the script's run are shown, and after `== tiered KEEP NAME` its entries, read
+//! back from ledgers that moved; after `== save NAME` the script's run is saved, and the state file shown in hexadecimal; after
+//! `== resume NAME` an input of `resume` stands in hexadecimal, of which the report or the refusal is shown, and after `== cuts NAME`
+//! one of which each beginning is answered; after `== stop NAME` a script is saved where its first `stop` line stands, and the run goes
+//! on from that file with the lines after it. After `== ask NAME WORD..` an input of the command of these words stands in hexadecimal,
 //! and the number of its status is shown with what it writes; where a `stop` line parts it, it is the state of the script before that
-//! line, and the bytes behind it.
+//! line, and the bytes after it.
 //!
-//! Behind `== vectors NAME` vectors of the codecs stand, behind `== packets NAME` packets of one link, and behind `== back NAME` a script
+//! After `== vectors NAME` vectors of the codecs stand, after `== packets NAME` packets of one link, and after `== back NAME` a script
 //! that is written as it was read: what `byte_answers` says of them.
 //!
 //! The input is made of the repository's examples, runs, answers and bytes by `geo_tools examples`, and what is expected of their reports.
@@ -47,7 +47,7 @@ struct Sections {
 }
 
 impl Sections {
-    /// What is written when a line was read: behind the last line of a section its answer, and then the line that names the next.
+    /// What is written when a line was read: after the last line of a section its answer, and then the line that names the next.
     fn next(&mut self, alloc: Global, line: &[u8]) -> Result<Vec<u8>> {
         if line.starts_with(HEADING) {
             let mut text = self.answer(alloc)?;

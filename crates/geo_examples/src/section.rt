@@ -28,7 +28,7 @@ enum Task {
     Save,
     /// A run goes on from bytes in hexadecimal.
     Resume,
-    /// A script is saved at its first `stop` line, and goes on with the lines behind it.
+    /// A script is saved at its first `stop` line, and goes on with the lines after it.
     Stop,
     /// A run is to go on from bytes in hexadecimal, of which the last ones are cut off.
     Cuts,
@@ -91,7 +91,7 @@ impl Task {
     }
 }
 
-/// A task with the line that names it and its lines so far; those behind the `stop` line that parts them stand apart.
+/// A task with the line that names it and its lines so far; those after the `stop` line that parts them stand apart.
 #[derive(Drop)]
 pub struct Section {
     task: Task,
@@ -149,7 +149,7 @@ impl Section {
         Ok(answer_lines(alloc, kind, self.first.as_slice())?)
     }
 
-    /// What a command shows of the script's run, with the number that the section's line has behind the command's word.
+    /// What a command shows of the script's run, with the number that the section's line has after the command's word.
     fn numbered(&self, alloc: Global, word: &str) -> Result<Vec<u8>> {
         let heading = str::from_utf8(self.heading.as_slice())?;
         let number = heading.split_whitespace().nth(2).unwrap_or("");
@@ -186,7 +186,7 @@ impl Section {
         Ok(text)
     }
 
-    /// How the command ends whose words stand behind the section's name, and what it writes; and what is answered over bytes, where that
+    /// How the command ends whose words stand after the section's name, and what it writes; and what is answered over bytes, where that
     /// is something else.
     fn asked(&self, alloc: Global) -> Result<Vec<u8>> {
         let words = self.words(alloc)?;
@@ -206,7 +206,7 @@ impl Section {
         Ok(text)
     }
 
-    /// The words behind the section's name.
+    /// The words after the section's name.
     fn words(&self, alloc: Global) -> Result<Vec<Word>> {
         let heading = str::from_utf8(self.heading.as_slice())?;
         let mut words = Vec::new(alloc);
@@ -216,7 +216,7 @@ impl Section {
         Ok(words)
     }
 
-    /// The bytes of its lines: where a `stop` line parts them, the state file of the script before it, and the bytes behind it.
+    /// The bytes of its lines: where a `stop` line parts them, the state file of the script before it, and the bytes after it.
     fn input(&self, alloc: Global) -> Result<Vec<u8>> {
         let first = hex::decode(alloc, self.first.as_slice())?;
         let Some(behind) = &self.behind else {

@@ -1,9 +1,10 @@
 -- The parts of lists that a call moves.
 use Rattle.std.proofs.Common.{◌≡◌, ℕ, ◌+◌, ◌-◌, ◌<◌, ◌≤◌, min, List, [], ◌++◌, take, drop, length, sym, ◌∙◌, append-nil, ap, subst, arith}
 use Rattle.std.specs.Io.KnownBytes.{Consumes, Keeps}
-use Rattle.std.specs.Prelude.{Option, Some, None, Result, Ok, Err, OnErr}
+use Rattle.std.specs.Prelude.{Option, Some, None}
 use Rattle.std.proofs.Math.Seq.{take-append-add}
 use Rattle.std.proofs.lemmas.List.{length-append, length-take, length-take-le, take-append-drop, take-append-le, take-take, take_min, drop-drop}
+pub use Rattle.geo_base.proofs.Results.{on_err_always as OnErr-from}
 
 -- the n bytes that were copied from the first m of what is left, and then the rest
 pub drop_copied : (bytes to : List ℕ) (taken n m : ℕ) → n ≤ m → take n to ≡ take n (take m (drop taken bytes)) → drop taken bytes ≡ take n to ++ drop (taken + n) bytes
@@ -22,12 +23,7 @@ take-filled buffer room rest piece at n within size count copied =
     take-append-le n room rest fits ∙ (copied ∙ (ap (λ k. take k piece) (count ∙ omega (arith, size)) ∙ take_min (length buffer - at) piece)) in
     kept (room ++ rest) n ∙ (ap (λ l. take at buffer ++ l) moved ∙ (sym (kept piece (length buffer - at)) ∙ ap (λ k. take k (take at buffer ++ piece)) (omega (arith, within))))
 
--- what holds anyway holds at an error
-pub OnErr-from : {T E P : Type 0} (r : Result T E) → P → OnErr r P
-OnErr-from (Ok _) p = tt
-OnErr-from (Err _) p = p
-
--- some bytes, and the first n of a buffer behind them, are no more than find room
+-- some bytes, and the first n of a buffer after them, are no more than find room
 pub within : (xs ys : List ℕ) (n most : ℕ) → length xs ≤ most → n ≤ most - length xs → length (xs ++ take n ys) ≤ most
 within xs ys n most short room =
     let len : length (xs ++ take n ys) ≡ length xs + length (take n ys) = length-append xs (take n ys) in
@@ -38,7 +34,7 @@ over xs ys n most short all more =
     let len : length (xs ++ take n ys) ≡ length xs + length (take n ys) = length-append xs (take n ys) in
     let taken : length (take n ys) ≡ n = length-take-le n ys all in omega (arith, len, taken, short, more)
 
--- what held of some bytes holds of them with none behind
+-- what held of some bytes holds of them with none after
 pub with_none : (P : List ℕ → Type 0) (xs : List ℕ) → P (xs ++ []) → P xs
 with_none P xs p = subst P (append-nil xs) p
 

@@ -11,7 +11,7 @@ Keeps old None = ⊤
 Keeps None (Some ys) = ⊥
 Keeps (Some xs) (Some ys) = ys ≡ xs
 
--- a sink that tells its bytes told them before, and holds these behind them
+-- a sink that tells its bytes told them before, and holds these after them
 abbrev pub Gains : Option (List ℕ) → Option (List ℕ) → List ℕ → Type 0
 Gains old None bytes = ⊤
 Gains None (Some ys) bytes = ⊥

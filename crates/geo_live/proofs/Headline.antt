@@ -12,7 +12,7 @@ use Rattle.geo_top.specs.Answered.{FaultCounts, IsAnswered, IsRead, OfRun}
 use Rattle.geo_top.specs.Claims.{HoldsWithin}
 use Rattle.geo_top.specs.Commands.{run_command}
 use Rattle.geo_top.specs.Headline.{IsAlwaysOnce, IsAlwaysSafe, IsAlwaysSettled}
-use Rattle.geo_top.specs.Outputs.{passed_limit, report_of}
+use Rattle.geo_top.specs.Outputs.{exceeded_limit, report_of}
 use Rattle.geo_top.specs.Statuses.{IsMade}
 use Rattle.geo_top.proofs.SavedWith.{ok_maps}
 
@@ -35,8 +35,8 @@ module _ (c : Option Command) (given taken : List ℕ → Type 0) (left : Option
   of_run P holds = λ ok run.
       let d = did_run ok run in (input, d.0, ok_maps (script_of input) (λ n. (output ≡ report_of n) × HoldsWithin n) P (λ n k. holds n k.0 k.1) d.2)
 
-  pub told_report : OfRun c given s (λ n. taken (report_of n) × (passed_limit n ≡ None))
-  told_report = of_run (λ n. taken (report_of n) × (passed_limit n ≡ None)) (λ n is k. (subst taken is took, k.0))
+  pub told_report : OfRun c given s (λ n. taken (report_of n) × (exceeded_limit n ≡ None))
+  told_report = of_run (λ n. taken (report_of n) × (exceeded_limit n ≡ None)) (λ n is k. (subst taken is took, k.0))
 
   pub told_once : OfRun c given s IsAlwaysOnce
   told_once = of_run IsAlwaysOnce (λ n is k. k.1.once)

@@ -1,4 +1,4 @@
--- What `run` answers to the script that `live` read, with the schedule that it printed behind it.
+-- What `run` answers to the script that `live` read, with the schedule that it printed after it.
 use Rattle.std.proofs.Common.{◌≡◌, ℕ, ◌+◌, Bool, true, false, if◌then◌else◌, List, [], ◌∷◌, ◌++◌, refl, sym, ap, subst, ◌∙◌, append_assoc, inl, inr}
 use Rattle.std.proofs.lemmas.Bool.{cases_Bool}
 use Rattle.std.specs.Prelude.{Option, Some, None, Result, Ok, Err, IfOk, IsOkAnd, find}
@@ -25,7 +25,7 @@ use Rattle.script_text.proofs.Following.{joined}
 use Rattle.geo_top.specs.declared.top.answer.Answer.{Answer}
 use Rattle.geo_top.specs.declared.top.command.Shown.TheVariants as shown
 use Rattle.geo_top.specs.declared.top.status.Status.TheVariants as status
-use Rattle.geo_top.specs.Outputs.{answer_to, passed_limit, report_of, unless_passed}
+use Rattle.geo_top.specs.Outputs.{answer_to, exceeded_limit, report_of, unless_exceeded}
 use Rattle.live_output.specs.LiveRuns.{IsLiveRun}
 use Rattle.live_output.specs.Playing.{with_steps}
 use Rattle.geo_live.specs.LiveAnswers.{ReplaysAs}
@@ -97,14 +97,14 @@ no_step input n is =
 
 -- ---- what `run` answers to these steps
 abbrev ran : Setup → List Step → Answer
-ran s es = unless_passed (report s (run s es)) (run_under all_limits s es).ended
+ran s es = unless_exceeded (report s (run s es)) (run_under all_limits s es).ended
 
-same_answer : (n m : Script) (es : List Step) → m.setup ≡ n.setup → m.steps ≡ es → passed_limit (with_steps n es) ≡ None
+same_answer : (n m : Script) (es : List Step) → m.setup ≡ n.setup → m.steps ≡ es → exceeded_limit (with_steps n es) ≡ None
     → answer_to shown.Report (Ok m) ≡ record { status = status.Ok; bytes = report_of (with_steps n es) }
 same_answer n m es setup steps none =
-    ap (λ (s : Setup). ran s m.steps) setup ∙ (ap (ran n.setup) steps ∙ ap (unless_passed (report n.setup (run n.setup es))) none)
+    ap (λ (s : Setup). ran s m.steps) setup ∙ (ap (ran n.setup) steps ∙ ap (unless_exceeded (report n.setup (run n.setup es))) none)
 
-answers : (n : Script) (es : List Step) (r : Result Script Fault) → IsOkAnd r (IsWithSteps n (n.steps ++ es)) → n.steps ≡ [] → passed_limit (with_steps n es) ≡ None
+answers : (n : Script) (es : List Step) (r : Result Script Fault) → IsOkAnd r (IsWithSteps n (n.steps ++ es)) → n.steps ≡ [] → exceeded_limit (with_steps n es) ≡ None
     → answer_to shown.Report r ≡ record { status = status.Ok; bytes = report_of (with_steps n es) }
 answers n es (Ok m) h none within = same_answer n m es h.setup (h.steps ∙ ap (λ (fs : List Step). fs ++ es) none) within
 answers n es (Err f) h none within = absurd h

@@ -34,7 +34,7 @@ status_to (Err f) = status.BadScript f.line f.rule
 abbrev pub live_status : List ℕ → Status
 live_status input = if nat_lt 67108864 (length input) then status.TooLarge 1 else status_to (script_of input)
 
--- behind the input the lines of these steps make a script to which `run` answers the report of the run over them. The answer is that over
+-- after the input the lines of these steps make a script to which `run` answers the report of the run over them. The answer is that over
 -- the lines of a text, however long it is
 abbrev pub ReplaysAs : List ℕ → Script → List Step → Type 0
 ReplaysAs input n es =
@@ -86,7 +86,7 @@ WentOutPartly input output f =
 pub record IsLiveAnswered (input output : List ℕ) (f : FaultCounts) (s : Status) : Type 0 where
   -- With Ok it is, of one schedule, the report of the written machine's run over it, the line `schedule`, and this schedule, which reads
   -- back. The run passes no limit, and all that is claimed of the run of a script holds of it. Its last step settles, unless settling
-  -- there would pass a limit. Behind the script that was read this schedule makes a script to which `run` answers the very report.
+  -- there would pass a limit. After the script that was read this schedule makes a script to which `run` answers the very report.
   pub live : s ≡ status.Ok → TellsRunOf input output
   -- Each refusal comes only for its cause; and no answer but that of a read fault is made where the source failed.
   pub cause : HasLiveCause input f s

@@ -13,7 +13,7 @@ use geo_io::{Gate, ReadFault, Source, read_all};
 use geo_top::{Answer, Status, refusal};
 use live_output::all_events_output;
 use live_run::live;
-use node_book::BookList;
+use node_log::NodeLogs;
 use script_text::{Scenario, ScriptFault, read_script};
 use std::alloc::Global;
 use std::sync::{Arc, Wait};
@@ -95,7 +95,7 @@ fn answer_to_scenario<R: Threads + Wait + Sync, G: Gate + Sync>(
     })
 }
 
-/// The bytes of it; the books that the threads leave are let go.
+/// The bytes of it; the logs that the threads leave are let go.
 fn output_of<R: Threads + Wait + Sync, G: Gate + Sync>(
     rt: &R,
     alloc: Global,
@@ -106,8 +106,8 @@ fn output_of<R: Threads + Wait + Sync, G: Gate + Sync>(
     requires { 0 < asked.workers }
     ensures { IfOk result (TellsRun (arc_value scenario.now)) }
 {
-    let books = live(rt, alloc, scenario, asked.workers, asked.turns, gate)?;
-    let output = all_events_output(alloc, scenario, &books);
-    BookList::let_go(books);
+    let logs = live(rt, alloc, scenario, asked.workers, asked.turns, gate)?;
+    let output = all_events_output(alloc, scenario, &logs);
+    NodeLogs::let_go(logs);
     output
 }

@@ -7,7 +7,7 @@ ghost use Rattle.geo_live.specs.declared.words.Live.{Live as Asked};
 ghost use Rattle.geo_top.specs.Answered.{IsAnswered, IsRead, OfRun};
 ghost use Rattle.geo_top.specs.Commands.{Reads, command_of};
 ghost use Rattle.geo_top.specs.Headline.{IsAlwaysOnce, IsAlwaysSafe, IsAlwaysSettled};
-ghost use Rattle.geo_top.specs.Outputs.{passed_limit, report_of};
+ghost use Rattle.geo_top.specs.Outputs.{exceeded_limit, report_of};
 
 use crate::answering::answer_from;
 use crate::words::Live;
@@ -18,7 +18,7 @@ use std::sync::Wait;
 use std::thread::Threads;
 
 /// The whole program. For the words of `live` it reads all of the source, which is a script without a schedule; runs the nodes that the
-/// script declares on threads; and writes to the sink the report and the schedule of a run of the machine, which is what the books that
+/// script declares on threads; and writes to the sink the report and the schedule of a run of the machine, which is what the logs that
 /// the threads leave make, as far as the limits of a run allow. The gate is asked before each turn of a worker. For all other words it
 /// is [`geo_alone`].
 ///
@@ -33,9 +33,9 @@ pub fn geo_main<R: Threads + Wait + Sync, S: Source, K: Sink, G: Gate + Sync>(
 ) -> Status
     // The headline, on `run`: with Ok what went out is the report of the written machine's run over the script that the source gave,
     // which passes no limit; and at every moment of that run each topic has its messages once, per producer in order, whatever a
-    // subscription has acknowledged is settled, and behind each step that settles all has come over. `alone` has all else that holds.
+    // subscription has acknowledged is settled, and after each step that settles all has come over. `alone` has all else that holds.
     ensures report { OfRun (command_of words.now) (S.given source.old source.new) result
-        (λ n. K.taken sink.old sink.new (report_of n) × (passed_limit n ≡ None)) }
+        (λ n. K.taken sink.old sink.new (report_of n) × (exceeded_limit n ≡ None)) }
     ensures once { OfRun (command_of words.now) (S.given source.old source.new) result IsAlwaysOnce }
     ensures safe { OfRun (command_of words.now) (S.given source.old source.new) result IsAlwaysSafe }
     ensures settled { OfRun (command_of words.now) (S.given source.old source.new) result IsAlwaysSettled }

@@ -12,9 +12,9 @@ use Rattle.trace_laws.proofs.ReadBack.{trace_read}
 use Rattle.script_text.specs.Rules.{script_of}
 use Rattle.script_text.specs.Scenario.{IsScenario}
 use Rattle.script_text.specs.Script.{Script}
-use Rattle.script_inputs.specs.Apart.{AreApart, headed}
-use Rattle.script_inputs.specs.Starts.{declarations_in}
-use Rattle.script_inputs.proofs.Behind.{apart_law}
+use Rattle.script_generator.specs.Apart.{AreApart, headed}
+use Rattle.script_generator.specs.Starts.{declarations_in}
+use Rattle.script_generator.proofs.Behind.{apart_law}
 use Rattle.geo_top.specs.declared.top.status.Status.TheVariants as status
 use Rattle.geo_top.specs.Audits.{audit_line}
 use Rattle.geo_top.specs.Outputs.{answer_to_audited, answer_to_auditing, answer_to_judged}

@@ -5,10 +5,10 @@ use Rattle.geo_base.specs.Scripted.{IsScripted}
 use Rattle.geo_base.specs.World.{opening_world}
 use Rattle.script_text.specs.Script.{Script}
 use Rattle.geo_top.specs.Headline.{NothingComesAgain}
-use Rattle.geo_top.specs.Outputs.{passed_limit}
+use Rattle.geo_top.specs.Outputs.{exceeded_limit}
 use Rattle.geo_top.proofs.ComesNot.{comes_not, of_opening}
 use Rattle.geo_top.proofs.ShortSettling.{taken_short}
 
-pub nothing_again : (n : Script) → IsScripted n.setup → passed_limit n ≡ None → NothingComesAgain n
+pub nothing_again : (n : Script) → IsScripted n.setup → exceeded_limit n ≡ None → NothingComesAgain n
 nothing_again n scripted none =
     comes_not n.setup (opening_world n.setup) n.steps (of_opening n.setup scripted n.steps) (λ k at. taken_short n.setup scripted n.steps none k at)

@@ -14,7 +14,7 @@ use Rattle.world_laws.specs.AlikeWorlds.{world_on}
 use Rattle.consumer_laws.specs.Anew.{all_sought}
 use Rattle.consumer_laws.proofs.Fences.Law.{anew_holds}
 use Rattle.geo_top.specs.Claims.{BeginsAnew}
-use Rattle.geo_top.specs.Outputs.{passed_limit}
+use Rattle.geo_top.specs.Outputs.{exceeded_limit}
 use Rattle.geo_top.proofs.Limits.{never_ends}
 use Rattle.geo_top.proofs.Quiet.{run_append}
 use Rattle.geo_top.proofs.ShortSettling.{part_short}
@@ -27,7 +27,7 @@ steps_on : (s : Setup) (before between : List Step) → run_under no_limits s (b
 steps_on s before between =
     run_append no_limits s (begun (opening_world s)) before between ∙ ap (λ (r : Ran). run_from no_limits s r between) (open_at (run_under no_limits s before) (never_ends s before))
 
-module _ (n : Script) (scripted : IsScripted n.setup) (none : passed_limit n ≡ None) where
+module _ (n : Script) (scripted : IsScripted n.setup) (none : exceeded_limit n ≡ None) where
   short_on : (before between rest : List Step) (at : Settling) → n.steps ≡ before ++ (between ++ rest) → IsShort (world_on n.setup (run n.setup before) between at)
   short_on before between rest at is =
       let s = n.setup in

@@ -1,4 +1,4 @@
--- What an answer is where it is Ok, and what holds of the run behind it.
+-- What an answer is where it is Ok, and what holds of the run after it.
 use Rattle.std.proofs.Common.{◌≡◌, ℕ, Bool, true, false, List, [], ◌∷◌, ◌++◌, refl, ap, subst}
 use Rattle.std.specs.Prelude.{Option, Some, None, Result, Ok, Err, IsOkAnd, if◌then◌else◌, length, drop, nat_lt}
 use Rattle.audit.specs.AuditOf.{audit_by, audit_of}
@@ -19,7 +19,7 @@ use Rattle.state_file.specs.Loading.{IsLoaded, Loaded, bad_state, version}
 use Rattle.state_file.specs.State.{SavedState}
 use Rattle.world_laws.proofs.KeptRuns.ResumedRuns.{resumed_law}
 use Rattle.world_laws.proofs.KeptRuns.SavedRuns.{reached_law}
-use Rattle.script_inputs.specs.Starts.{declarations_in, trace_in}
+use Rattle.script_generator.specs.Starts.{declarations_in, trace_in}
 use Rattle.geo_top.specs.declared.top.answer.Answer.{Answer}
 use Rattle.geo_top.specs.declared.top.command.Command.{Command}
 use Rattle.geo_top.specs.declared.top.command.Command.TheVariants as command
@@ -36,10 +36,10 @@ use Rattle.geo_top.specs.Commands.{audit_command, lost_command, lost_on_command,
 use Rattle.geo_top.specs.Founded.{IsAccepted, IsFounded, IsKnown, IsKnownFor}
 use Rattle.geo_top.specs.Losing.{Declares, LossHolds, declaring, declaring_on, lost_of, lost_on, undeclared}
 use Rattle.geo_top.specs.OneRun.{IsKept, IsSavedWith, counted_on, lines_before, text_on}
-use Rattle.geo_top.specs.Outputs.{IsAnswerFor, IsAnswerToBytes, IsAnswerToFile, IsAnswerToInput, UnlessLarge, answer_to, answer_to_audited, answer_to_big, answer_to_judged, answer_to_loaded, answer_to_losing, answer_to_losing_loaded, answer_to_losing_on, answer_to_resumed, answer_to_save, answer_to_steps, answer_to_steps_on, big_steps, output_of, passed_limit, resumed_limit, resumed_report, summary_of, unless_passed}
+use Rattle.geo_top.specs.Outputs.{IsAnswerFor, IsAnswerToBytes, IsAnswerToFile, IsAnswerToInput, UnlessLarge, answer_to, answer_to_audited, answer_to_big, answer_to_judged, answer_to_loaded, answer_to_losing, answer_to_losing_loaded, answer_to_losing_on, answer_to_resumed, answer_to_save, answer_to_steps, answer_to_steps_on, big_steps, output_of, exceeded_limit, resumed_limit, resumed_report, summary_of, unless_exceeded}
 use Rattle.geo_top.specs.States.{file_of, state_of_run, stopped}
 use Rattle.geo_top.specs.Stepped.{AreAllSaidOn, steps_of, steps_on}
-use Rattle.script_inputs.specs.Generated.{generated_run}
+use Rattle.script_generator.specs.Generated.{generated_run}
 use Rattle.geo_top.specs.Wholly.{IsAuditedWhole, IsJudgedWhole}
 use Rattle.geo_top.proofs.Accepted.{traced_whole}
 use Rattle.geo_top.proofs.Auditing.{accepted_safe, accepted_whole}
@@ -49,9 +49,9 @@ use Rattle.geo_top.proofs.SaidSteps.{schedule_said}
 use Rattle.geo_top.proofs.SavedWith.{loaded_holds, ok_maps}
 
 -- an output, unless a limit was passed
-ok_passed : (a : Answer) (bytes : List ℕ) (o : Option ℕ) → a ≡ unless_passed bytes o → a.status ≡ status.Ok → (a.bytes ≡ bytes) × (o ≡ None)
-ok_passed a bytes None is ok = (ap (λ (a : Answer). a.bytes) is, refl)
-ok_passed a bytes (Some limit) is ok = absurd (cc (ap (λ (a : Answer). a.status) is))
+ok_exceeded : (a : Answer) (bytes : List ℕ) (o : Option ℕ) → a ≡ unless_exceeded bytes o → a.status ≡ status.Ok → (a.bytes ≡ bytes) × (o ≡ None)
+ok_exceeded a bytes None is ok = (ap (λ (a : Answer). a.bytes) is, refl)
+ok_exceeded a bytes (Some limit) is ok = absurd (cc (ap (λ (a : Answer). a.status) is))
 
 -- ---- an answer that is Ok is one to the bytes that were read
 of_reading : (r : Reading) (c : Option Command) (input : List ℕ) (a : Answer) → c ≡ Some (command.Reads r) → IsAnswerFor c input a → IsAnswerToInput r input a
@@ -70,28 +70,28 @@ known_of r c input a f ok is =
 
 -- ---- to a script of whose run something is shown
 by_script : (v : Shown) (a : Answer) (r : Result Script Fault) (P : Script → Type 0) → a ≡ answer_to v r → a.status ≡ status.Ok → IsAccepted r
-    → ((m : Script) → IsScenario m → a.bytes ≡ output_of v m → passed_limit m ≡ None → P m) → IsOkAnd r P
-by_script v a (Ok m) P is ok known f = let p = ok_passed a (output_of v m) (passed_limit m) is ok in f m known p.0 p.1
+    → ((m : Script) → IsScenario m → a.bytes ≡ output_of v m → exceeded_limit m ≡ None → P m) → IsOkAnd r P
+by_script v a (Ok m) P is ok known f = let p = ok_exceeded a (output_of v m) (exceeded_limit m) is ok in f m known p.0 p.1
 by_script v a (Err e) P is ok known f = absurd (cc (ap (λ (a : Answer). a.status) is))
 
 pub of_script : (c : Option Command) (input : List ℕ) (a : Answer) → IsFounded c input a → (P : Shown → Script → Type 0)
-    → ((v : Shown) (m : Script) → IsScenario m → a.bytes ≡ output_of v m → passed_limit m ≡ None → P v m) → OfScript c input a.status P
+    → ((v : Shown) (m : Script) → IsScenario m → a.bytes ≡ output_of v m → exceeded_limit m ≡ None → P v m) → OfScript c input a.status P
 of_script c input a f P holds = λ v ok is.
     by_script v a (script_of input) (P v) (ok_bytes (reading.Script v) c input a f ok is) ok (known_of (reading.Script v) c input a f ok is) (holds v)
 
 -- ---- to a script whose steps are told
 by_told : (a : Answer) (text : List ℕ) (r : Result Script Fault) (P : Script → Type 0) → a ≡ answer_to_steps text r → a.status ≡ status.Ok → IsAccepted r
-    → ((m : Script) → r ≡ Ok m → IsScenario m → a.bytes ≡ steps_of text m → passed_limit m ≡ None → P m) → IsOkAnd r P
-by_told a text (Ok m) P is ok known f = let p = ok_passed a (steps_of text m) (passed_limit m) is ok in f m refl known p.0 p.1
+    → ((m : Script) → r ≡ Ok m → IsScenario m → a.bytes ≡ steps_of text m → exceeded_limit m ≡ None → P m) → IsOkAnd r P
+by_told a text (Ok m) P is ok known f = let p = ok_exceeded a (steps_of text m) (exceeded_limit m) is ok in f m refl known p.0 p.1
 by_told a text (Err e) P is ok known f = absurd (cc (ap (λ (a : Answer). a.status) is))
 
 pub ok_told : (c : Option Command) (input : List ℕ) (a : Answer) → IsFounded c input a → (P : Script → Type 0)
-    → ((m : Script) → script_of input ≡ Ok m → IsScenario m → a.bytes ≡ steps_of input m → passed_limit m ≡ None → P m) → a.status ≡ status.Ok → c ≡ Some steps_command → IsOkAnd (script_of input) P
+    → ((m : Script) → script_of input ≡ Ok m → IsScenario m → a.bytes ≡ steps_of input m → exceeded_limit m ≡ None → P m) → a.status ≡ status.Ok → c ≡ Some steps_command → IsOkAnd (script_of input) P
 ok_told c input a f P holds ok is = by_told a input (script_of input) P (ok_bytes reading.Steps c input a f ok is) ok (known_of reading.Steps c input a f ok is) holds
 
 -- ---- to a script whose run is saved
 by_save : (a : Answer) (r : Result Script Fault) → a ≡ answer_to_save r → a.status ≡ status.Ok → IsAccepted r → IsOkAnd r (λ m. IsKept m × (a.bytes ≡ file_of m))
-by_save a (Ok m) is ok known = let p = ok_passed a (file_of m) (passed_limit (stopped m)) is ok in (record { scenario = known; within = p.1 }, p.0)
+by_save a (Ok m) is ok known = let p = ok_exceeded a (file_of m) (exceeded_limit (stopped m)) is ok in (record { scenario = known; within = p.1 }, p.0)
 by_save a (Err f) is ok known = absurd (cc (ap (λ (a : Answer). a.status) is))
 
 pub ok_saved : (c : Option Command) (input : List ℕ) (a : Answer) → IsFounded c input a → a.status ≡ status.Ok → c ≡ Some save_command
@@ -106,7 +106,7 @@ abbrev pub GoesOn : List ℕ → List ℕ → Type 0
 GoesOn input output = (g : SavedState) × (used : ℕ) × IsLoaded input (Ok (g, used)) × IsOkAnd (schedule_of g.scenario.setup (drop used input)) (Reports output g)
 
 by_steps : (a : Answer) (g : SavedState) (r : Result (List Step) Fault) → a ≡ answer_to_resumed g r → a.status ≡ status.Ok → IsOkAnd r (Reports a.bytes g)
-by_steps a g (Ok es) is ok = ok_passed a (resumed_report g es) (resumed_limit g es) is ok
+by_steps a g (Ok es) is ok = ok_exceeded a (resumed_report g es) (resumed_limit g es) is ok
 by_steps a g (Err e) is ok = absurd (cc (ap (λ (a : Answer). a.status) is))
 
 by_loaded : (input : List ℕ) (a : Answer) (l : Loaded) → IsLoaded input l → a ≡ answer_to_loaded going_on.Report input l → a.status ≡ status.Ok → GoesOn input a.bytes
@@ -128,7 +128,7 @@ TellsOn input output =
 by_steps_told : (a : Answer) (g : SavedState) (lines : List ℕ) (r : Result (List Step) Fault) → schedule_of g.scenario.setup lines ≡ r → a ≡ answer_to_steps_on g lines r → a.status ≡ status.Ok
     → IsOkAnd r (Tells a.bytes g lines)
 by_steps_told a g lines (Ok es) read is ok =
-    let p = ok_passed a (steps_on g lines es) (resumed_limit g es) is ok in (p.0, p.1, schedule_said g.scenario.setup lines es read)
+    let p = ok_exceeded a (steps_on g lines es) (resumed_limit g es) is ok in (p.0, p.1, schedule_said g.scenario.setup lines es read)
 by_steps_told a g lines (Err e) read is ok = absurd (cc (ap (λ (a : Answer). a.status) is))
 
 by_told_on : (input : List ℕ) (a : Answer) (l : Loaded) → IsLoaded input l → a ≡ answer_to_loaded going_on.Steps input l → a.status ≡ status.Ok → TellsOn input a.bytes
@@ -173,7 +173,7 @@ LosesAt name names output n = Declares n.setup name × (output ≡ lost_of name 
 by_name : (name input : List ℕ) (names : Bool) (a : Answer) (m : Script) (b : Bool) → is_among m.setup.clusters name ≡ b → IsScenario m
     → a ≡ answer_to_losing name names (if b then Ok m else Err (undeclared input)) → a.status ≡ status.Ok → LosesAt name names a.bytes m
 by_name name input names a m true here known is ok =
-    let p = ok_passed a (lost_of name names m) (passed_limit m) is ok in (here, p.0, (p.1, holds_of m known.setup p.1), loss_holds m.setup m.steps)
+    let p = ok_exceeded a (lost_of name names m) (exceeded_limit m) is ok in (here, p.0, (p.1, holds_of m known.setup p.1), loss_holds m.setup m.steps)
 by_name name input names a m false none known is ok = absurd (cc (ap (λ (a : Answer). a.status) is))
 
 by_losing : (name input : List ℕ) (names : Bool) (a : Answer) (r : Result Script Fault) → a ≡ answer_to_losing name names (declaring name input r) → a.status ≡ status.Ok
@@ -186,7 +186,7 @@ LosesOn name output g es = Declares g.scenario.setup name × (output ≡ lost_on
 
 by_name_on : (name lines : List ℕ) (a : Answer) (g : SavedState) (es : List Step) (b : Bool) → is_among g.scenario.setup.clusters name ≡ b
     → a ≡ answer_to_losing_on name g (if b then Ok es else Err (undeclared lines)) → a.status ≡ status.Ok → LosesOn name a.bytes g es
-by_name_on name lines a g es true here is ok = let p = ok_passed a (lost_on name g es) (resumed_limit g es) is ok in (here, p.0, p.1)
+by_name_on name lines a g es true here is ok = let p = ok_exceeded a (lost_on name g es) (resumed_limit g es) is ok in (here, p.0, p.1)
 by_name_on name lines a g es false none is ok = absurd (cc (ap (λ (a : Answer). a.status) is))
 
 by_losing_on : (name lines : List ℕ) (a : Answer) (g : SavedState) (r : Result (List Step) Fault)
@@ -273,10 +273,10 @@ pub big_is : (c : Option Command) (input : List ℕ) (a : Answer) (number : ℕ)
 big_is c input a number f is = subst (λ (c : Option Command). IsAnswerFor c input a) is f.due
 
 pub ok_big : (c : Option Command) (input : List ℕ) (a : Answer) (number : ℕ) → IsFounded c input a → a.status ≡ status.Ok → c ≡ Some (command.Big number)
-    → (a.bytes ≡ summary_of number) × (passed_limit (generated_run number) ≡ None)
-ok_big c input a number f ok is = ok_passed a (summary_of number) (passed_limit (generated_run number)) (big_is c input a number f is) ok
+    → (a.bytes ≡ summary_of number) × (exceeded_limit (generated_run number) ≡ None)
+ok_big c input a number f ok is = ok_exceeded a (summary_of number) (exceeded_limit (generated_run number)) (big_is c input a number f is) ok
 
 pub ok_big_steps : (c : Option Command) (input : List ℕ) (a : Answer) (number : ℕ) → IsFounded c input a → a.status ≡ status.Ok → c ≡ Some (command.BigSteps number)
-    → (a.bytes ≡ big_steps number) × (passed_limit (generated_run number) ≡ None)
+    → (a.bytes ≡ big_steps number) × (exceeded_limit (generated_run number) ≡ None)
 ok_big_steps c input a number f ok is =
-    ok_passed a (big_steps number) (passed_limit (generated_run number)) (subst (λ (c : Option Command). IsAnswerFor c input a) is f.due) ok
+    ok_exceeded a (big_steps number) (exceeded_limit (generated_run number)) (subst (λ (c : Option Command). IsAnswerFor c input a) is f.due) ok

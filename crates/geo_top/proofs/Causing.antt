@@ -11,7 +11,7 @@ use Rattle.script_text.specs.Schedule.{schedule_of}
 use Rattle.script_text.specs.Script.{Fault, Script}
 use Rattle.state_file.specs.Loading.{IsLoaded, Loaded, bad_state, version}
 use Rattle.state_file.specs.State.{SavedState}
-use Rattle.script_inputs.specs.Starts.{declarations_in, trace_in}
+use Rattle.script_generator.specs.Starts.{declarations_in, trace_in}
 use Rattle.geo_top.specs.declared.top.answer.Answer.{Answer}
 use Rattle.geo_top.specs.declared.top.command.Command.{Command}
 use Rattle.geo_top.specs.declared.top.command.Command.TheVariants as command
@@ -22,14 +22,14 @@ use Rattle.geo_top.specs.declared.top.command.Reading.TheVariants as reading
 use Rattle.geo_top.specs.declared.top.command.Shown.{Shown}
 use Rattle.geo_top.specs.declared.top.status.Status.{Status}
 use Rattle.geo_top.specs.declared.top.status.Status.TheVariants as status
-use Rattle.geo_top.specs.Causes.{HasBadLine, HasBadState, HasRefusedLine, IsPassed, RunPasses}
+use Rattle.geo_top.specs.Causes.{HasBadLine, HasBadState, HasRefusedLine, IsExceeded, RunExceeds}
 use Rattle.geo_top.specs.Commands.{auditing_command, command_resuming, command_showing, lost_command, lost_on_command, resume_command, steps_on_command}
 use Rattle.geo_top.specs.Losing.{declaring, lost_of, lost_on}
-use Rattle.geo_top.specs.Outputs.{IsAnswerFor, IsAnswerToBytes, UnlessLarge, answer_going_on, answer_to, answer_to_audited, answer_to_generated, answer_to_judged, answer_to_loaded, answer_to_losing, answer_to_losing_loaded, answer_to_losing_on, answer_to_resumed, answer_to_save, answer_to_steps, answer_to_steps_on, big_steps, output_of, passed_limit, resumed_limit, resumed_report, steps_declaring, summary_of, unless_passed}
+use Rattle.geo_top.specs.Outputs.{IsAnswerFor, IsAnswerToBytes, UnlessLarge, answer_going_on, answer_to, answer_to_audited, answer_to_generated, answer_to_judged, answer_to_loaded, answer_to_losing, answer_to_losing_loaded, answer_to_losing_on, answer_to_resumed, answer_to_save, answer_to_steps, answer_to_steps_on, big_steps, output_of, exceeded_limit, resumed_limit, resumed_report, steps_declaring, summary_of, unless_exceeded}
 use Rattle.geo_top.specs.States.{file_of, stopped}
 use Rattle.geo_top.specs.Statuses.{IsMade, refusal_line}
 use Rattle.geo_top.specs.Stepped.{steps_of, steps_on}
-use Rattle.script_inputs.specs.Generated.{generated_run}
+use Rattle.script_generator.specs.Generated.{generated_run}
 use Rattle.geo_top.proofs.Limits.{IsOnlyLimit, only_limit, only_limit_from}
 
 -- by a status: which words and which input it had for its cause
@@ -38,7 +38,7 @@ IsCaused c input status.Ok = c ≢ None
 IsCaused c input status.Usage = c ≡ None
 IsCaused c input (status.BadScript line rule) = HasBadLine c input (record { line = line; rule = rule })
 IsCaused c input status.ReadFault = ⊥
-IsCaused c input (status.TooLarge limit) = IsPassed c input limit
+IsCaused c input (status.TooLarge limit) = IsExceeded c input limit
 IsCaused c input status.WriteFault = ⊥
 IsCaused c input status.OutOfMemory = ⊥
 IsCaused c input (status.BadState offset rule) = HasBadState c input (bad_state offset rule)
@@ -52,40 +52,40 @@ ok_with : {T E : Type 0} (r : Result T E) (t : T) (P : T → Type 0) → r ≡ O
 ok_with r t P is p = subst (λ (x : Result _ _). IsOkAnd x P) (sym is) p
 
 -- an output, or a limit that was passed
-caused_passed : (r : Reading) (input bytes : List ℕ) (o : Option ℕ) → IsOnlyLimit o → ((limit : ℕ) → o ≡ Some limit → RunPasses r input limit)
-    → IsCaused (Some (command.Reads r)) input (unless_passed bytes o).status
-caused_passed r input bytes None only passes = some_command (command.Reads r)
-caused_passed r input bytes (Some limit) only passes = inr (only, passes limit refl)
+caused_exceeded : (r : Reading) (input bytes : List ℕ) (o : Option ℕ) → IsOnlyLimit o → ((limit : ℕ) → o ≡ Some limit → RunExceeds r input limit)
+    → IsCaused (Some (command.Reads r)) input (unless_exceeded bytes o).status
+caused_exceeded r input bytes None only passes = some_command (command.Reads r)
+caused_exceeded r input bytes (Some limit) only passes = inr (only, passes limit refl)
 
 caused_script : (v : Shown) (input : List ℕ) (r : Result Script Fault) → script_of input ≡ r → IsCaused (Some (command_showing v)) input (answer_to v r).status
 caused_script v input (Ok m) script =
-    caused_passed (reading.Script v) input (output_of v m) (passed_limit m) (only_limit m.setup m.steps)
-    (λ limit passed. ok_with (script_of input) m (λ n. passed_limit n ≡ Some limit) script passed)
+    caused_exceeded (reading.Script v) input (output_of v m) (exceeded_limit m) (only_limit m.setup m.steps)
+    (λ limit passed. ok_with (script_of input) m (λ n. exceeded_limit n ≡ Some limit) script passed)
 caused_script v input (Err f) script = script
 
 caused_told : (input : List ℕ) (r : Result Script Fault) → script_of input ≡ r → IsCaused (Some (command.Reads reading.Steps)) input (answer_to_steps input r).status
 caused_told input (Ok m) script =
-    caused_passed reading.Steps input (steps_of input m) (passed_limit m) (only_limit m.setup m.steps)
-    (λ limit passed. ok_with (script_of input) m (λ n. passed_limit n ≡ Some limit) script passed)
+    caused_exceeded reading.Steps input (steps_of input m) (exceeded_limit m) (only_limit m.setup m.steps)
+    (λ limit passed. ok_with (script_of input) m (λ n. exceeded_limit n ≡ Some limit) script passed)
 caused_told input (Err f) script = script
 
 caused_save : (input : List ℕ) (r : Result Script Fault) → script_of input ≡ r → IsCaused (Some (command.Reads reading.Save)) input (answer_to_save r).status
 caused_save input (Ok m) script =
-    caused_passed reading.Save input (file_of m) (passed_limit (stopped m)) (only_limit m.setup (stopped m).steps)
-    (λ limit passed. ok_with (script_of input) m (λ n. passed_limit (stopped n) ≡ Some limit) script passed)
+    caused_exceeded reading.Save input (file_of m) (exceeded_limit (stopped m)) (only_limit m.setup (stopped m).steps)
+    (λ limit passed. ok_with (script_of input) m (λ n. exceeded_limit (stopped n) ≡ Some limit) script passed)
 caused_save input (Err f) script = script
 
 caused_steps : (input : List ℕ) (g : SavedState) (used : ℕ) (r : Result (List Step) Fault) → IsLoaded input (Ok (g, used)) → schedule_of g.scenario.setup (drop used input) ≡ r
     → IsCaused (Some resume_command) input (answer_to_resumed g r).status
 caused_steps input g used (Ok es) loaded is =
-    caused_passed (reading.Resume going_on.Report) input (resumed_report g es) (resumed_limit g es) (only_limit_from g.scenario.setup _ es refl)
+    caused_exceeded (reading.Resume going_on.Report) input (resumed_report g es) (resumed_limit g es) (only_limit_from g.scenario.setup _ es refl)
     (λ limit passed. (g, used, loaded, ok_with (schedule_of g.scenario.setup (drop used input)) es (λ fs. resumed_limit g fs ≡ Some limit) is passed))
 caused_steps input g used (Err e) loaded is = (g, used, loaded, is)
 
 caused_steps_on : (input : List ℕ) (g : SavedState) (used : ℕ) (r : Result (List Step) Fault) → IsLoaded input (Ok (g, used)) → schedule_of g.scenario.setup (drop used input) ≡ r
     → IsCaused (Some steps_on_command) input (answer_to_steps_on g (drop used input) r).status
 caused_steps_on input g used (Ok es) loaded is =
-    caused_passed (reading.Resume going_on.Steps) input (steps_on g (drop used input) es) (resumed_limit g es) (only_limit_from g.scenario.setup _ es refl)
+    caused_exceeded (reading.Resume going_on.Steps) input (steps_on g (drop used input) es) (resumed_limit g es) (only_limit_from g.scenario.setup _ es refl)
     (λ limit passed. (g, used, loaded, ok_with (schedule_of g.scenario.setup (drop used input)) es (λ fs. resumed_limit g fs ≡ Some limit) is passed))
 caused_steps_on input g used (Err e) loaded is = (g, used, loaded, is)
 
@@ -101,14 +101,14 @@ caused_resume v input (Err (version number)) loaded = (inl (v, refl), loaded)
 caused_losing : (name : List ℕ) (names : Bool) (input : List ℕ) (r : Result Script Fault) → declaring name input (script_of input) ≡ r
     → IsCaused (Some (lost_command name names)) input (answer_to_losing name names r).status
 caused_losing name names input (Ok m) script =
-    caused_passed (reading.Lost name names) input (lost_of name names m) (passed_limit m) (only_limit m.setup m.steps)
-    (λ limit passed. ok_with (declaring name input (script_of input)) m (λ n. passed_limit n ≡ Some limit) script passed)
+    caused_exceeded (reading.Lost name names) input (lost_of name names m) (exceeded_limit m) (only_limit m.setup m.steps)
+    (λ limit passed. ok_with (declaring name input (script_of input)) m (λ n. exceeded_limit n ≡ Some limit) script passed)
 caused_losing name names input (Err f) script = script
 
 caused_losing_on : (name input : List ℕ) (g : SavedState) (used : ℕ) (r : Result (List Step) Fault) → IsLoaded input (Ok (g, used))
     → steps_declaring name input g used ≡ r → IsCaused (Some (lost_on_command name)) input (answer_to_losing_on name g r).status
 caused_losing_on name input g used (Ok es) loaded is =
-    caused_passed (reading.LostOn name) input (lost_on name g es) (resumed_limit g es) (only_limit_from g.scenario.setup _ es refl)
+    caused_exceeded (reading.LostOn name) input (lost_on name g es) (resumed_limit g es) (only_limit_from g.scenario.setup _ es refl)
     (λ limit passed. (g, used, loaded, ok_with (steps_declaring name input g used) es (λ fs. resumed_limit g fs ≡ Some limit) is passed))
 caused_losing_on name input g used (Err e) loaded is = (g, used, loaded, is)
 
@@ -149,12 +149,12 @@ caused_input true r input a long is =
     subst (λ (a : Answer). IsCaused (Some (command.Reads r)) input a.status) (sym is) (inl ((r, refl), refl, ltb-true 67108864 (length input) long))
 caused_input false r input a long is = caused_bytes r input a is
 
-caused_big_steps : (input : List ℕ) (number : ℕ) (o : Option ℕ) → passed_limit (generated_run number) ≡ o → IsOnlyLimit o
-    → IsCaused (Some (command.BigSteps number)) input (unless_passed (big_steps number) o).status
+caused_big_steps : (input : List ℕ) (number : ℕ) (o : Option ℕ) → exceeded_limit (generated_run number) ≡ o → IsOnlyLimit o
+    → IsCaused (Some (command.BigSteps number)) input (unless_exceeded (big_steps number) o).status
 caused_big_steps input number None passed only = some_command (command.BigSteps number)
 caused_big_steps input number (Some limit) passed only = inr (only, passed)
 
-caused_big : (input : List ℕ) (number : ℕ) (o : Option ℕ) → passed_limit (generated_run number) ≡ o → IsOnlyLimit o
+caused_big : (input : List ℕ) (number : ℕ) (o : Option ℕ) → exceeded_limit (generated_run number) ≡ o → IsOnlyLimit o
     → IsCaused (Some (command.Big number)) input (answer_to_generated number o).status
 caused_big input number None passed only = some_command (command.Big number)
 caused_big input number (Some limit) passed only = inr (only, passed)
@@ -164,10 +164,10 @@ caused None input a is = subst (λ (a : Answer). IsCaused None input a.status) (
 caused (Some (command.Reads r)) input a is = caused_input (nat_lt 67108864 (length input)) r input a refl is
 caused (Some (command.Big number)) input a is =
     let m = generated_run number in
-    subst (λ (a : Answer). IsCaused (Some (command.Big number)) input a.status) (sym is) (caused_big input number (passed_limit m) refl (only_limit m.setup m.steps))
+    subst (λ (a : Answer). IsCaused (Some (command.Big number)) input a.status) (sym is) (caused_big input number (exceeded_limit m) refl (only_limit m.setup m.steps))
 caused (Some (command.BigSteps number)) input a is =
     let m = generated_run number in
-    subst (λ (a : Answer). IsCaused (Some (command.BigSteps number)) input a.status) (sym is) (caused_big_steps input number (passed_limit m) refl (only_limit m.setup m.steps))
+    subst (λ (a : Answer). IsCaused (Some (command.BigSteps number)) input a.status) (sym is) (caused_big_steps input number (exceeded_limit m) refl (only_limit m.setup m.steps))
 
 -- so neither a fault nor want of memory is answered
 pub caused_made : (c : Option Command) (input : List ℕ) (s : Status) → IsCaused c input s → IsMade s
@@ -190,28 +190,28 @@ IsLine s bytes = bytes ≡ refusal_line s
 abbrev Lined : Answer → Type 0
 Lined a = IsLine a.status a.bytes
 
-line_passed : (bytes : List ℕ) (o : Option ℕ) → Lined (unless_passed bytes o)
-line_passed bytes None = tt
-line_passed bytes (Some limit) = refl
+line_exceeded : (bytes : List ℕ) (o : Option ℕ) → Lined (unless_exceeded bytes o)
+line_exceeded bytes None = tt
+line_exceeded bytes (Some limit) = refl
 
 line_script : (v : Shown) (r : Result Script Fault) → Lined (answer_to v r)
-line_script v (Ok m) = line_passed (output_of v m) (passed_limit m)
+line_script v (Ok m) = line_exceeded (output_of v m) (exceeded_limit m)
 line_script v (Err f) = refl
 
 line_told : (text : List ℕ) (r : Result Script Fault) → Lined (answer_to_steps text r)
-line_told text (Ok m) = line_passed (steps_of text m) (passed_limit m)
+line_told text (Ok m) = line_exceeded (steps_of text m) (exceeded_limit m)
 line_told text (Err f) = refl
 
 line_save : (r : Result Script Fault) → Lined (answer_to_save r)
-line_save (Ok m) = line_passed (file_of m) (passed_limit (stopped m))
+line_save (Ok m) = line_exceeded (file_of m) (exceeded_limit (stopped m))
 line_save (Err f) = refl
 
 line_steps : (g : SavedState) (r : Result (List Step) Fault) → Lined (answer_to_resumed g r)
-line_steps g (Ok es) = line_passed (resumed_report g es) (resumed_limit g es)
+line_steps g (Ok es) = line_exceeded (resumed_report g es) (resumed_limit g es)
 line_steps g (Err e) = refl
 
 line_steps_on : (g : SavedState) (lines : List ℕ) (r : Result (List Step) Fault) → Lined (answer_to_steps_on g lines r)
-line_steps_on g lines (Ok es) = line_passed (steps_on g lines es) (resumed_limit g es)
+line_steps_on g lines (Ok es) = line_exceeded (steps_on g lines es) (resumed_limit g es)
 line_steps_on g lines (Err e) = refl
 
 line_on : (v : GoingOn) (g : SavedState) (lines : List ℕ) → Lined (answer_going_on v g lines)
@@ -224,11 +224,11 @@ line_loaded v input (Err (bad_state offset rule)) = refl
 line_loaded v input (Err (version number)) = refl
 
 line_losing : (name : List ℕ) (names : Bool) (r : Result Script Fault) → Lined (answer_to_losing name names r)
-line_losing name names (Ok m) = line_passed (lost_of name names m) (passed_limit m)
+line_losing name names (Ok m) = line_exceeded (lost_of name names m) (exceeded_limit m)
 line_losing name names (Err f) = refl
 
 line_losing_on : (name : List ℕ) (g : SavedState) (r : Result (List Step) Fault) → Lined (answer_to_losing_on name g r)
-line_losing_on name g (Ok es) = line_passed (lost_on name g es) (resumed_limit g es)
+line_losing_on name g (Ok es) = line_exceeded (lost_on name g es) (resumed_limit g es)
 line_losing_on name g (Err e) = refl
 
 line_losing_file : (name input : List ℕ) (l : Loaded) → Lined (answer_to_losing_loaded name input l)
@@ -260,5 +260,5 @@ line_input false r input a is = line_bytes r input a is
 pub lined : (c : Option Command) (input : List ℕ) (a : Answer) → IsAnswerFor c input a → Lined a
 lined None input a is = subst Lined (sym is) refl
 lined (Some (command.Reads r)) input a is = line_input (nat_lt 67108864 (length input)) r input a is
-lined (Some (command.Big number)) input a is = subst Lined (sym is) (line_passed (summary_of number) (passed_limit (generated_run number)))
-lined (Some (command.BigSteps number)) input a is = subst Lined (sym is) (line_passed (big_steps number) (passed_limit (generated_run number)))
+lined (Some (command.Big number)) input a is = subst Lined (sym is) (line_exceeded (summary_of number) (exceeded_limit (generated_run number)))
+lined (Some (command.BigSteps number)) input a is = subst Lined (sym is) (line_exceeded (big_steps number) (exceeded_limit (generated_run number)))

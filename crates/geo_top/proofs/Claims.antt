@@ -7,8 +7,8 @@ use Rattle.geo_base.specs.Settled.{SettledSoFar}
 use Rattle.geo_base.specs.World.{World}
 use Rattle.geo_base.specs.declared.event.Step.{Step}
 use Rattle.geo_base.specs.Setup.{Setup}
-use Rattle.script_inputs.proofs.InRange.{is_scenario}
-use Rattle.script_inputs.specs.Generated.{generated_run}
+use Rattle.script_generator.proofs.InRange.{is_scenario}
+use Rattle.script_generator.specs.Generated.{generated_run}
 use Rattle.script_text.specs.Script.{Script}
 use Rattle.world_laws.specs.InRun.{IsCarriedIn}
 use Rattle.world_laws.specs.Publishing.{AllAnswered, FewReceipts}
@@ -17,7 +17,7 @@ use Rattle.world_laws.proofs.Residing.EachRun.{in_each_run}
 use Rattle.failover_laws.specs.Moves.{MayMove}
 use Rattle.failover_laws.proofs.Handover.InRuns.{may_move}
 use Rattle.geo_top.specs.Claims.{HoldsOf}
-use Rattle.geo_top.specs.Outputs.{passed_limit}
+use Rattle.geo_top.specs.Outputs.{exceeded_limit}
 use Rattle.geo_top.proofs.Again.{nothing_again}
 use Rattle.geo_top.proofs.Anew.{begins_anew}
 use Rattle.geo_top.proofs.Handed.{got_in, handed_in, in_order_in}
@@ -31,7 +31,7 @@ both_in s es P Q p q = record {
   moment = λ k at e writes. (p.moment k at e writes, q.moment k at e writes);
 }
 
-pub holds_of : (n : Script) → IsScripted n.setup → passed_limit n ≡ None → HoldsOf n
+pub holds_of : (n : Script) → IsScripted n.setup → exceeded_limit n ≡ None → HoldsOf n
 holds_of n scripted none = record {
   chain = carried.chain scripted;
   repeated = carried.repeated scripted;
@@ -65,5 +65,5 @@ holds_of n scripted none = record {
     moves : MayMove n.setup n.steps
     moves = may_move n.setup scripted n.steps (λ part rest at is. part_short n.setup scripted n.steps part rest is none at)
 
-pub generated_holds : (number : ℕ) → passed_limit (generated_run number) ≡ None → HoldsOf (generated_run number)
+pub generated_holds : (number : ℕ) → exceeded_limit (generated_run number) ≡ None → HoldsOf (generated_run number)
 generated_holds number none = holds_of (generated_run number) (is_scenario (generated_run number) number refl).setup none

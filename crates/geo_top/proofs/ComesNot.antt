@@ -16,7 +16,7 @@ use Rattle.world_laws.specs.AlikeWorlds.{AlwaysOn, world_on}
 use Rattle.world_laws.proofs.Induction.Reaching.{goes_on as reached_on}
 use Rattle.world_laws.proofs.KeptRuns.ResumedRuns.{run_parts}
 use Rattle.failover_laws.specs.Got.{CameTo, IsBehindOrApart, IsConnectedSince, IsNeverGotAgain, SubsTo}
-use Rattle.failover_laws.specs.PassedOver.{HasPassed, UpdatesPass}
+use Rattle.failover_laws.specs.UpdatedTo.{HasUpdatedTo, UpdatesHaveEffect}
 use Rattle.failover_laws.specs.Run.{IsNeverAgain}
 use Rattle.failover_laws.specs.Since.{Since}
 use Rattle.failover_laws.proofs.Behind.{behind_always}
@@ -26,7 +26,7 @@ use Rattle.failover_laws.proofs.Lasting.{since_keeps, still_passed, within_keeps
 use Rattle.failover_laws.proofs.Never.{never_law}
 use Rattle.failover_laws.proofs.Passing.{passes_between}
 use Rattle.failover_laws.proofs.Running.{run_follows, settling_follows}
-use Rattle.geo_top.specs.Again.{AllStayPassed, ComesNotAgain, IsBehindRequests}
+use Rattle.geo_top.specs.Again.{AllStayUpdated, ComesNotAgain, IsBehindRequests}
 
 -- ---- what was passed over stays so
 
@@ -34,7 +34,7 @@ use Rattle.geo_top.specs.Again.{AllStayPassed, ComesNotAgain, IsBehindRequests}
 steps_come : (s : Setup) (v : World) (es : List Step) → CameTo s v → CameTo s (run_from no_limits s (begun v) es).world
 steps_come s v es came = CameTo.Going v (run_from no_limits s (begun v) es).world came ((reached_on s v).limited no_limits es)
 
-all_stay : (s : Setup) (v : World) (es : List Step) → CameTo s v → AllStayPassed s v es
+all_stay : (s : Setup) (v : World) (es : List Step) → CameTo s v → AllStayUpdated s v es
 all_stay s v es came before between rest t y n at whole leave =
     let since : Since s t y n u w = follows in record {
       between = since_keeps s t y n u w since;
@@ -57,7 +57,7 @@ all_stay s v es came before between rest t y n at whole leave =
     -- of a client of whatever topic
     Gets : (a j c : ℕ) → Ident → ℕ → Type 0
     Gets a j c ident x =
-        HasPassed (topic_at s u x y) n a j → Since s x y n u w → IsConnectedSince s u w c y → SubsTo s w c n
+        HasUpdatedTo (topic_at s u x y) n a j → Since s x y n u w → IsConnectedSince s u w c y → SubsTo s w c n
         → (client_at s (happens s w (event.Get c)) c).got ≡ (client_at s w c).got ++ ident ∷ [] → IsBehindOrApart s w x y a j ident
 
     follows : Since s t y n u w
@@ -75,7 +75,7 @@ still_short s w k (Some p) short = short
 -- the law of a run from a world that runs come to, where it is short
 pub record AreOf (s : Setup) (v : World) (es : List Step) : Type 0 where
   came : CameTo s v
-  passes : (at : Settling) (k : ℕ) → IsShort (world_on s v (take k es) at) → UpdatesPass s (world_on s v (take k es) at)
+  passes : (at : Settling) (k : ℕ) → IsShort (world_on s v (take k es) at) → UpdatesHaveEffect s (world_on s v (take k es) at)
   never : IsNeverAgain s v es
   got : IsNeverGotAgain s v es
   behind : AlwaysOn s v [] es (λ w settled. IsShort w → IsBehindRequests s w)

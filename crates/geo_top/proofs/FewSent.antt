@@ -38,12 +38,12 @@ reads_sent h b y q (Reads.Counts i e id answer u u' next is heard) = omega arith
 reads_sent h b y q (Reads.AsksAgain i e id answer u u' next is heard) = omega arith
 reads_sent h b y q (Reads.Completes i e id answer u u' next is heard) = omega arith
 reads_sent h b y q (Reads.CreatesAt i j e n remote next is named) = omega arith
-reads_sent h b y q (Reads.PassesOver i j e n remote v ws next is named after) = omega arith
+reads_sent h b y q (Reads.ActsOnUpdate i j e n remote v ws next is named after) = omega arith
 
 offers_sent : (h : Site) (b : Broker) (n : List ℕ) (q : Plan) → Offers h b n q → length q.sent ≤ 1
 offers_sent h b n q Offers.NothingToOffer = omega arith
 offers_sent h b n q (Offers.Gives v i at e due is picked) = omega arith
-offers_sent h b n q (Offers.PassesBy v i e ws due is after) = omega arith
+offers_sent h b n q (Offers.SkipsMarker v i e ws due is after) = omega arith
 offers_sent h b n q (Offers.Caches v i j e c ws due is after) = omega arith
 
 seeks_sent : (h : Site) (b : Broker) (n : List ℕ) (to : Option Position) (q : Plan) → Seeks h b n to q → length q.sent ≤ 1

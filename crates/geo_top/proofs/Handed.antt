@@ -11,11 +11,11 @@ use Rattle.consumer_laws.specs.Handed.{OnlyHanded, handing}
 use Rattle.consumer_laws.specs.InOrder.{FirstInOrder, GetsInOrder}
 use Rattle.consumer_laws.proofs.Runs.Law.{law_holds}
 use Rattle.geo_top.specs.Claims.{IsGotUnlessSkipped}
-use Rattle.geo_top.specs.Outputs.{passed_limit}
+use Rattle.geo_top.specs.Outputs.{exceeded_limit}
 use Rattle.geo_top.proofs.ShortSettling.{taken_short, written_short}
 
 -- such a run is short at each of its moments
-module _ (n : Script) (scripted : IsScripted n.setup) (none : passed_limit n ≡ None) where
+module _ (n : Script) (scripted : IsScripted n.setup) (none : exceeded_limit n ≡ None) where
   pub handed_in : AlwaysToldIn (handing n.setup) n.setup n.steps (λ w handed. OnlyHanded n.setup w handed)
   handed_in =
       let s = n.setup in

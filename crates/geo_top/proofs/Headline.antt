@@ -23,7 +23,7 @@ use Rattle.world_laws.proofs.OnceInOrder.Once.{once_always}
 use Rattle.world_laws.proofs.Induction.Runs.{always_in}
 use Rattle.world_laws.proofs.Telling.ToldLaws.{safe_always}
 use Rattle.geo_top.specs.Headline.{AllCameOver, IsAlwaysInTime, IsAlwaysKept, IsAlwaysOnce, IsAlwaysSafe, IsAlwaysSettled, IsInBacklog, IsSafe, NothingIsLost, SettlesInRounds}
-use Rattle.geo_top.specs.Outputs.{passed_limit}
+use Rattle.geo_top.specs.Outputs.{exceeded_limit}
 use Rattle.geo_top.proofs.Quiet.{run_settled}
 use Rattle.geo_top.proofs.ShortSettling.{part_short, taken_short, written_short}
 
@@ -50,7 +50,7 @@ safe_world : (s : Setup) (w : World) (settled : SettledSoFar) → OnlySettled s 
 safe_world s w settled only = record { acknowledged = only; messages = nothing_lost s w settled only }
 
 -- a run that passes no limit is short at each of its moments
-pub always_safe : (n : Script) → IsScripted n.setup → passed_limit n ≡ None → IsAlwaysSafe n
+pub always_safe : (n : Script) → IsScripted n.setup → exceeded_limit n ≡ None → IsAlwaysSafe n
 always_safe n scripted none =
     let s = n.setup in
     let law : AlwaysIn s n.steps (λ w settled. IsShort w → OnlySettled s w settled) = always_in s n.steps (λ w settled. IsShort w → OnlySettled s w settled) (safe_always.settled s scripted) in
@@ -68,8 +68,8 @@ always_safe n scripted none =
 pub always_kept : (n : Script) → IsAlwaysKept n
 always_kept n = λ k at. (kept_between n.setup).between no_limits (take k n.steps) at
 
--- behind each step that settles all has come over
-pub always_settled : (n : Script) → IsScripted n.setup → passed_limit n ≡ None → IsAlwaysSettled n
+-- after each step that settles all has come over
+pub always_settled : (n : Script) → IsScripted n.setup → exceeded_limit n ≡ None → IsAlwaysSettled n
 always_settled n scripted none es fs is =
     let s = n.setup in
     let same = run_settled s es in

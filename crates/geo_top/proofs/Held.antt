@@ -13,7 +13,7 @@ use Rattle.geo_base.specs.declared.write.Write.TheVariants as write
 use Rattle.geo_base.specs.Broker.{Broker, changed, sub_named, written}
 use Rattle.geo_base.specs.Cache.{any_passed, cached, most_cached, not_passed}
 use Rattle.geo_base.specs.Cursor.{below, mark}
-use Rattle.geo_base.specs.Dispatcher.{given, passed_index}
+use Rattle.geo_base.specs.Dispatcher.{given, skipped_index}
 use Rattle.geo_base.specs.Plan.{Plan, all_changed, all_written, done, halted}
 use Rattle.geo_base.specs.Run.{waiting_of}
 use Rattle.geo_base.specs.Seeking.{restart}
@@ -21,16 +21,13 @@ use Rattle.geo_base.specs.Subscription.{Subscription, after_acks, attached, clea
 use Rattle.world_laws.proofs.Dispatching.SubFrames.{AllSubs, all_written_subs, at_name, created_subs, done_subs}
 use Rattle.world_laws.proofs.Budget.Tails.{sum_cons}
 use Rattle.world_laws.proofs.Walks.Walk.{on_if, on_test}
+use Rattle.geo_base.proofs.Lists.{length_push}
 
 -- ---- how many entries and subscriptions
 
 -- the entries, and ten for each subscription
 abbrev pub held : Broker → ℕ
 held b = length b.entries + 10 * length b.subs
-
-pushed : {X : Type 0} (xs : List X) (x : X) → length (xs ++ x ∷ []) ≡ length xs + 1
-pushed [] x = omega arith
-pushed (y ∷ ys) x = let h = pushed ys x in omega (arith, h)
 
 filtered : {X : Type 0} (p : X → Bool) (xs : List X) → length (filter p xs) ≤ length xs
 filtered p [] = omega arith
@@ -40,16 +37,16 @@ named_held : (b : Broker) (n : List ℕ) (f : Subscription → Subscription) →
 named_held b n f = let h = length-map b.subs (λ (s : Subscription). if bytes_eq s.name n then f s else s) in omega (arith, h)
 
 written_held : (per : ℕ) (b : Broker) (w : Write) → held (written per b w) ≤ held b + 10
-written_held per b (write.Append e) = let h = pushed b.entries e in omega (arith, h)
+written_held per b (write.Append e) = let h = length_push b.entries e in omega (arith, h)
 written_held per b (write.Create n kind replicated latest) =
     let u = new_subscription n kind replicated (if latest then below (length b.entries) else []) in
-    let h = pushed b.subs u in
+    let h = length_push b.subs u in
     on_if (λ (c : Broker). held c ≤ held b + 10) (is_some (sub_named b.subs n)) b (record b { subs = b.subs ++ u ∷ [] }) (omega arith) (omega (arith, h))
 written_held per b (write.Alter n kind replicated) = let h = named_held b n (λ s. record s { kind = kind; replicated = replicated }) in omega (arith, h)
 written_held per b (write.Delete n) = let h = filtered (λ (s : Subscription). not (bytes_eq s.name n)) b.subs in omega (arith, h)
 written_held per b (write.Acks n is) = let h = named_held b n (with_acks is) in omega (arith, h)
 written_held per b (write.Seek n i) = let h = named_held b n (sought i) in omega (arith, h)
-written_held per b (write.SenderAck y i) = omega arith
+written_held per b (write.ReplicatorAck y i) = omega arith
 written_held per b (write.SessionNumber y session) = omega arith
 written_held per b write.Ledger = omega arith
 
@@ -61,7 +58,7 @@ changed_held : (b : Broker) (c : Change) → held (changed b c) ≤ held b
 changed_held b (change.Attach n k) = named_held b n (attached k)
 changed_held b (change.Detach c) = let h = length-map b.subs (detached c) in omega (arith, h)
 changed_held b (change.Permit n c permits) = named_held b n (permitted c permits)
-changed_held b (change.Passed n i) = named_held b n (passed_index i)
+changed_held b (change.Skipped n i) = named_held b n (skipped_index i)
 changed_held b (change.Given n i at) = named_held b n (given i at)
 changed_held b (change.Cache n c) = named_held b n (λ s. record s { cache = cached s.cache c })
 changed_held b (change.Acked n) = named_held b n after_acks
@@ -93,7 +90,7 @@ halted_held per b k p =
     let ws = take k p.writes ++ write.Ledger ∷ [] in
     let w = all_written_held per b ws in
     let c = changed_held (all_written per b ws) change.Forget in
-    let l = pushed (take k p.writes) write.Ledger in
+    let l = length_push (take k p.writes) write.Ledger in
     let t = taken_length k p.writes in omega (arith, w, c, l, t)
 
 pub restarted_held : (per : ℕ) (b : Broker) → held (done per b restart) ≤ held b
@@ -110,12 +107,12 @@ small_named n f v k h = on_if IsSmall (bytes_eq v.name n) (f v) v (k h) h
 
 dropped : {X : Type 0} (xs : List X) (x : X) → 1 ≤ length xs → length (drop 1 xs ++ x ∷ []) ≡ length xs
 dropped [] x some = absurd (omega (arith, some))
-dropped (y ∷ ys) x some = let h = pushed ys x in omega (arith, h)
+dropped (y ∷ ys) x some = let h = length_push ys x in omega (arith, h)
 
 cached_small : (cs : List CachedSnapshot) (c : CachedSnapshot) → length cs ≤ 10 → length (cached cs c) ≤ 10
 cached_small cs c h =
     on_test (λ (l : List CachedSnapshot). length l ≤ 10) (nat_lt (length cs) most_cached) _ _
-    (λ t. let p = pushed cs c in let lt : length cs < 10 = grind (arith, nat_tests, t) in omega (arith, p, lt))
+    (λ t. let p = length_push cs c in let lt : length cs < 10 = grind (arith, nat_tests, t) in omega (arith, p, lt))
     (λ t. let full : 10 ≤ length cs = grind (arith, nat_tests, t) in let p = dropped cs c (omega (arith, full)) in omega (arith, p, h))
 
 passed_small : (m : ℕ) (cs : List CachedSnapshot) → length (not_passed m cs) ≤ length cs
@@ -137,7 +134,7 @@ written_small per b (write.Acks n is) h = all_written_subs IsSmall IsSmall per b
 written_small per b (write.Seek n i) h = all_written_subs IsSmall IsSmall per b (write.Seek n i ∷ []) (tt, tt) (λ v k. small_named n (sought i) v (λ k. k) k) h
 written_small per b (write.Append e) h = h
 written_small per b (write.Delete n) h = all_written_subs IsSmall IsSmall per b (write.Delete n ∷ []) (tt, tt) (λ v k. k) h
-written_small per b (write.SenderAck y i) h = h
+written_small per b (write.ReplicatorAck y i) h = h
 written_small per b (write.SessionNumber y n) h = h
 written_small per b write.Ledger h = h
 
@@ -152,7 +149,7 @@ changed_small : (b : Broker) (c : Change) → AllSubs IsSmall b → AllSubs IsSm
 changed_small b (change.Attach n k) h = done_subs IsSmall IsSmall 1 b (only (change.Attach n k)) tt (λ v m. small_named n (attached k) v (λ m. m) m) h
 changed_small b (change.Detach c) h = done_subs IsSmall IsSmall 1 b (only (change.Detach c)) tt (λ v m. m) h
 changed_small b (change.Permit n c permits) h = done_subs IsSmall IsSmall 1 b (only (change.Permit n c permits)) tt (λ v m. small_named n (permitted c permits) v (λ m. m) m) h
-changed_small b (change.Passed n i) h = done_subs IsSmall IsSmall 1 b (only (change.Passed n i)) tt (λ v m. small_named n (passed_index i) v (λ m. m) m) h
+changed_small b (change.Skipped n i) h = done_subs IsSmall IsSmall 1 b (only (change.Skipped n i)) tt (λ v m. small_named n (skipped_index i) v (λ m. m) m) h
 changed_small b (change.Given n i at) h = done_subs IsSmall IsSmall 1 b (only (change.Given n i at)) tt (λ v m. small_named n (given i at) v (λ m. m) m) h
 changed_small b (change.Cache n c) h =
     done_subs IsSmall IsSmall 1 b (only (change.Cache n c)) tt (λ v m. small_named n (λ s. record s { cache = cached s.cache c }) v (cached_small v.cache c) m) h

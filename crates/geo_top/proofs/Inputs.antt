@@ -1,7 +1,7 @@
 -- What a call read of a source, and that what it answers is ready to be written.
 use Rattle.std.proofs.Common.{◌≡◌, ℕ, ◌≤◌, List, [], length, refl, sym, ap, subst, inl, inr, arith}
 use Rattle.std.proofs.lemmas.List.{append-nil, length-append}
-use Rattle.std.specs.Prelude.{◌⊎◌, true, false, Option, Some, None, IfSome, Result, Ok, Err, IfOk, OnErr}
+use Rattle.std.specs.Prelude.{◌⊎◌, true, false, Option, Some, None, IfSome, Result, Ok, Err, IfOk}
 use Rattle.std.specs.Io.KnownBytes.{Consumes}
 use Rattle.geo_base.specs.declared.memory.Memory.{Memory}
 use Rattle.geo_io.specs.Faults.{Rose, Stood}
@@ -17,6 +17,7 @@ use Rattle.geo_top.specs.Founded.{IsReady, IsSent}
 use Rattle.geo_top.specs.Outputs.{refused}
 use Rattle.geo_top.specs.Statuses.{IsMade}
 use Rattle.geo_top.proofs.Answered.{ready_failed, ready_large, ready_made}
+pub use Rattle.geo_base.proofs.Results.{on_err_always as at_error}
 
 -- all of it
 pub read_whole : (c : Option Command) (given : List ℕ → Type 0) (left : Option (List ℕ)) (before now : ℕ) (s : Status) (bytes : List ℕ) → given bytes
@@ -44,7 +45,7 @@ read_none c given left before now s none gave = record {
   told = λ reads. absurd (none reads);
 }
 
--- a part, and the input is that with what is left behind it
+-- a part, and the input is that with what is left after it
 pub read_part : (c : Option Command) (given : List ℕ → Type 0) (left new : Option (List ℕ)) (before now : ℕ) (s : Status) (bytes : List ℕ) → given bytes → Consumes left new bytes
     → IsCut bytes before now s → (IsMade s → s ≡ status.TooLarge 1) → (input : List ℕ) × IsRead c given left before now s input × (length bytes ≤ length input)
 read_part c given None new before now s bytes gave taken cut large =
@@ -76,11 +77,6 @@ read_still c given left before now s input sent r = record {
   all = λ made. absurd made;
   told = r.told;
 }
-
--- what holds anyway holds at an error
-pub at_error : {T E P : Type 0} (r : Result T E) → P → OnErr r P
-at_error (Ok t) p = tt
-at_error (Err e) p = p
 
 -- ---- words that have an input
 pub input_some : (c : Option Command) → has_input c ≡ true → Reads c

@@ -8,12 +8,12 @@ use Rattle.geo_base.specs.Report.{broker_lines, client_line, client_lines, clust
 use Rattle.geo_base.specs.Scripted.{IsScripted}
 use Rattle.geo_base.specs.Setup.{Declared, Setup, declared_at}
 use Rattle.geo_base.specs.World.{World, broker_at, client_at, node, topic_at}
-use Rattle.world.specs.World.{IsAt, WorldBook, no_node, node_at}
+use Rattle.world.specs.World.{IsAt, WorldView, no_node, node_at}
 use Rattle.report_lines.proofs.Parts.{lines_added, with_line_feeds-append}
 use Rattle.report_lines.proofs.Added.{line_added}
-use Rattle.broker.specs.Node.{BrokerBook}
+use Rattle.broker.specs.Node.{BrokerView}
 use Rattle.world_laws.specs.Reached.{IsGround}
-use Rattle.world_kept.proofs.Reaching.{ground}
+use Rattle.kept_laws.proofs.Reaching.{ground}
 use Rattle.world_laws.proofs.Replicating.Sizes.{node_lt}
 use Rattle.geo_top.specs.Shown.{shown_world}
 use Rattle.geo_top.specs.Summary.{big_line, stored_line, stored_lines, summary, summary_lines}
@@ -25,36 +25,36 @@ here xs i x within read = drop_more xs i x within ∙ ap (λ (z : _). z ∷ drop
 
 -- ---- the broker of a topic at a cluster
 
-module _ (s : Setup) (b : WorldBook) (at : IsAt s b) (t x : ℕ) (topic : t < length s.topics) (cluster : x < length s.clusters) where
-  abbrev broker : BrokerBook
-  broker = node_at b.nodes (node s t x)
+module _ (s : Setup) (b : WorldView) (at : IsAt s b) (t x : ℕ) (topic : t < length s.topics) (cluster : x < length s.clusters) where
+  abbrev broker : BrokerView
+  broker = node_at b.brokers (node s t x)
 
-  in_nodes : node s t x < length b.nodes
-  in_nodes = subst (λ (m : ℕ). node s t x < m) (sym at.nodes.count) (node_lt s t x (topic, cluster))
+  in_nodes : node s t x < length b.brokers
+  in_nodes = subst (λ (m : ℕ). node s t x < m) (sym at.brokers.count) (node_lt s t x (topic, cluster))
 
   pub broker_there : broker.broker ≡ topic_at s (shown_world b) t x
-  broker_there = sym (get_or-map (λ (v : BrokerBook). v.broker) b.nodes (node s t x) no_node no_broker in_nodes)
+  broker_there = sym (get_or-map (λ (v : BrokerView). v.broker) b.brokers (node s t x) no_node no_broker in_nodes)
 
   clusters_there : broker.site.clusters ≡ s.clusters
-  clusters_there = ap (λ (h : Site). h.clusters) (at.nodes.each t x topic cluster).site
+  clusters_there = ap (λ (h : Site). h.clusters) (at.brokers.each t x topic cluster).site
 
   own_there : broker.site.own ≡ x
-  own_there = ap (λ (h : Site). h.own) (at.nodes.each t x topic cluster).site
+  own_there = ap (λ (h : Site). h.own) (at.brokers.each t x topic cluster).site
 
-  pub senders_there : length broker.broker.senders ≡ length broker.site.clusters
-  senders_there =
+  pub replicators_there : length broker.broker.replicators ≡ length broker.site.clusters
+  replicators_there =
       let g : IsGround s at.world = ground s at.setup at.world at.reached in
       let is : broker.broker ≡ broker_at at.world (node s t x) =
       broker_there ∙ ap (λ (bs : List Broker). slice_index_or bs (node s t x) no_broker) at.stands.brokers in
       let within : node s t x < length at.world.brokers = subst (λ (m : ℕ). node s t x < m) (sym g.places.brokers) (node_lt s t x (topic, cluster)) in
-      ap (λ (c : Broker). length c.senders) is ∙ ((g.places.each (node s t x) within).senders ∙ sym (ap length clusters_there))
+      ap (λ (c : Broker). length c.replicators) is ∙ ((g.places.each (node s t x) within).replicators ∙ sym (ap length clusters_there))
 
   lines_there : broker_lines broker.site.clusters broker.site.own broker.broker ≡ broker_lines s.clusters x (topic_at s (shown_world b) t x)
   lines_there =
       ap (λ (names : List (List ℕ)). broker_lines names broker.site.own broker.broker) clusters_there
       ∙ (ap (λ (own : ℕ). broker_lines s.clusters own broker.broker) own_there ∙ ap (broker_lines s.clusters x) broker_there)
 
-  pub place_added : (name n : List ℕ) (v : BrokerBook) (old mid new whole : List ℕ) → n ≡ get_or s.clusters x n → v ≡ broker
+  pub place_added : (name n : List ℕ) (v : BrokerView) (old mid new whole : List ℕ) → n ≡ get_or s.clusters x n → v ≡ broker
       → mid ≡ old ++ (words (codes "topic" ∷ name ∷ codes "at" ∷ n ∷ []) ++ 10 ∷ [])
       → new ≡ mid ++ with_line_feeds (broker_lines v.site.clusters v.site.own v.broker)
       → old ++ with_line_feeds (cluster_lines s (shown_world b) t name x (drop x s.clusters)) ≡ whole
@@ -63,18 +63,18 @@ module _ (s : Setup) (b : WorldBook) (at : IsAt s b) (t x : ℕ) (topic : t < le
       let rest = cluster_lines s (shown_world b) t name (x + 1) (drop (x + 1) s.clusters) in
       let at_cluster = broker_lines s.clusters x (topic_at s (shown_world b) t x) in
       let added : new ≡ mid ++ with_line_feeds at_cluster =
-      then_broker ∙ ap (λ (ls : List (List ℕ)). mid ++ with_line_feeds ls) (ap (λ (u : BrokerBook). broker_lines u.site.clusters u.site.own u.broker) is ∙ lines_there) in
+      then_broker ∙ ap (λ (ls : List (List ℕ)). mid ++ with_line_feeds ls) (ap (λ (u : BrokerView). broker_lines u.site.clusters u.site.own u.broker) is ∙ lines_there) in
       lines_added mid new whole at_cluster rest added
       (line_added old mid (words (codes "topic" ∷ name ∷ codes "at" ∷ n ∷ [])) whole (at_cluster ++ rest) first (rw (here s.clusters x n cluster read) at before))
 
 -- the messages that the one topic stored at a cluster
-pub stored_added : (s : Setup) (b : WorldBook) (at : IsAt s b) (x : ℕ) (topic : 0 < length s.topics) (cluster : x < length s.clusters)
-    → (n : List ℕ) (v : BrokerBook) (old new whole : List ℕ) → n ≡ get_or s.clusters x n → v ≡ node_at b.nodes (node s 0 x)
+pub stored_added : (s : Setup) (b : WorldView) (at : IsAt s b) (x : ℕ) (topic : 0 < length s.topics) (cluster : x < length s.clusters)
+    → (n : List ℕ) (v : BrokerView) (old new whole : List ℕ) → n ≡ get_or s.clusters x n → v ≡ node_at b.brokers (node s 0 x)
     → new ≡ old ++ (stored_line n v.broker.entries ++ 10 ∷ [])
     → old ++ with_line_feeds (stored_lines s (shown_world b) x (drop x s.clusters)) ≡ whole
     → new ++ with_line_feeds (stored_lines s (shown_world b) (x + 1) (drop (x + 1) s.clusters)) ≡ whole
 stored_added s b at x topic cluster n v old new whole read is added before =
-    let stored : v.broker ≡ topic_at s (shown_world b) 0 x = ap (λ (u : BrokerBook). u.broker) is ∙ broker_there s b at 0 x topic cluster in
+    let stored : v.broker ≡ topic_at s (shown_world b) 0 x = ap (λ (u : BrokerView). u.broker) is ∙ broker_there s b at 0 x topic cluster in
     line_added old new (stored_line n v.broker.entries) whole (stored_lines s (shown_world b) (x + 1) (drop (x + 1) s.clusters)) added
     (rw (← stored) at (rw (here s.clusters x n cluster read) at before))
 
@@ -91,13 +91,13 @@ client_added s w t i d k old new whole within read at added before =
 pub client_number : (s : Setup) (i : ℕ) → IsScripted s → i < length s.clients → Fits w32 i
 client_number s i scripted within = omega (arith, few_clients s scripted, within)
 
-pub client_within : (s : Setup) (b : WorldBook) (i : ℕ) → IsAt s b → i < length s.clients → i < length b.clients
+pub client_within : (s : Setup) (b : WorldView) (i : ℕ) → IsAt s b → i < length s.clients → i < length b.clients
 client_within s b i at within =
     let g : IsGround s at.world = ground s at.setup at.world at.reached in
     subst (λ (m : ℕ). i < m) (sym (ap length at.stands.clients ∙ g.places.clients)) within
 
 -- the client of a number is the world's
-pub client_there : (s : Setup) (b : WorldBook) (i : ℕ) (k : Client) → i < length b.clients → slice_index_or b.clients i k ≡ k → k ≡ client_at s (shown_world b) i
+pub client_there : (s : Setup) (b : WorldView) (i : ℕ) (k : Client) → i < length b.clients → slice_index_or b.clients i k ≡ k → k ≡ client_at s (shown_world b) i
 client_there s b i k within is = get_or_read b.clients i k within (sym is) (new_client (declared_at s i))
 
 pub topic_added : (s : Setup) (w : World) (i : ℕ) (name n : List ℕ) (old mid new whole : List ℕ) → i < length s.topics → n ≡ get_or s.topics i n → name ≡ n

@@ -8,22 +8,22 @@ use Rattle.state_file.specs.Loading.{IsLoaded}
 use Rattle.state_file.specs.State.{state_in}
 use Rattle.state_file.specs.Texts.{body_text, magic, newest}
 use Rattle.state_items.specs.Texts.{number, word}
-use Rattle.world_kept.specs.Saved.{IsLeft, IsShortState}
-use Rattle.world_kept.proofs.Left.{saved_law}
+use Rattle.kept_laws.specs.Saved.{IsLeft, IsShortState}
+use Rattle.kept_laws.proofs.Left.{saved_law}
 use Rattle.geo_top.specs.OneRun.{IsKept}
-use Rattle.geo_top.specs.Outputs.{passed_limit}
+use Rattle.geo_top.specs.Outputs.{exceeded_limit}
 use Rattle.geo_top.specs.States.{file_of, state_of_run, stopped}
 use Rattle.geo_top.proofs.Limits.{unlimited}
 use Rattle.geo_top.proofs.Stopping.{run_limit, stop_limit, stop_world}
 
--- where the run and the stop behind it pass no limit, the run passes none
-passes_none : (n : Script) (o : Option ℕ) → passed_limit n ≡ o → passed_limit (stopped n) ≡ None → passed_limit n ≡ None
-passes_none n None is within = is
-passes_none n (Some limit) is within = let some : passed_limit (stopped n) ≡ Some limit = run_limit n limit is in absurd (cc (some, within))
+-- where the run and the stop after it pass no limit, the run passes none
+exceeds_none : (n : Script) (o : Option ℕ) → exceeded_limit n ≡ o → exceeded_limit (stopped n) ≡ None → exceeded_limit n ≡ None
+exceeds_none n None is within = is
+exceeds_none n (Some limit) is within = let some : exceeded_limit (stopped n) ≡ Some limit = run_limit n limit is in absurd (cc (some, within))
 
 left : (n : Script) → IsKept n → IsLeft n n.steps (run n.setup n.steps) (state_of_run n)
 left n k =
-    let none : passed_limit n ≡ None = passes_none n (passed_limit n) refl k.within in
+    let none : exceeded_limit n ≡ None = exceeds_none n (exceeded_limit n) refl k.within in
     record {
       comes = record { goes_on = none; world = inl (unlimited all_limits n.setup n.steps none) };
       within = sym (stop_limit n none) ∙ k.within;

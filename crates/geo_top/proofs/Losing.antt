@@ -1,4 +1,4 @@
--- What is lost if a cluster goes: its name, the line behind the last one, and the answers.
+-- What is lost if a cluster goes: its name, the line after the last one, and the answers.
 use Rattle.std.proofs.Common.{◌≡◌, ℕ, suc, ◌+◌, ◌-◌, ◌<◌, ◌==◌, ltb, Bool, true, false, cond, not, ◌||◌, List, [], ◌∷◌, length, refl, sym, ap, subst, ◌∙◌, inl, inr, arith}
 use Rattle.std.specs.Prelude.{drop, fold, Option, Some, None, Result, Ok, Err, IfOk, if◌then◌else◌, position, slice_index_or}
 use Rattle.std.specs.List.{list_any, onto_first, position_or_len, slice_split}
@@ -18,13 +18,13 @@ use Rattle.script_text.specs.Schedule.{schedule_of}
 use Rattle.script_text.specs.Script.{Fault, Script}
 use Rattle.state_file.specs.Loading.{IsLoaded, bad_state, version}
 use Rattle.state_file.specs.State.{SavedState}
-use Rattle.world.specs.World.{WorldBook}
+use Rattle.world.specs.World.{WorldView}
 use Rattle.world_measures.specs.Worlds.{HasBrokers}
 use Rattle.geo_top.specs.declared.top.answer.Answer.{Answer}
 use Rattle.geo_top.specs.declared.top.status.Status.TheVariants as status
 use Rattle.geo_top.specs.Finished.{IsResumed}
 use Rattle.geo_top.specs.Losing.{declaring, declaring_on, is_cut, undeclared, with_end}
-use Rattle.geo_top.specs.Outputs.{IsAnswerToLosingFile, answer_to_losing, answer_to_losing_on, passed_limit, refused, resumed_limit, unless_passed}
+use Rattle.geo_top.specs.Outputs.{IsAnswerToLosingFile, answer_to_losing, answer_to_losing_on, exceeded_limit, refused, resumed_limit, unless_exceeded}
 use Rattle.geo_top.specs.States.{resumed}
 
 -- ---- the number of a name
@@ -145,14 +145,14 @@ behind_ended bs ended is e =
 abbrev ok_answer : List ℕ → Answer
 ok_answer bytes = record { status = status.Ok; bytes = bytes }
 
-pub told_whole : (bytes due : List ℕ) (o : Option ℕ) → bytes ≡ due → o ≡ None → ok_answer bytes ≡ unless_passed due o
-told_whole bytes due o is none = ap ok_answer is ∙ sym (ap (unless_passed due) none)
+pub told_whole : (bytes due : List ℕ) (o : Option ℕ) → bytes ≡ due → o ≡ None → ok_answer bytes ≡ unless_exceeded due o
+told_whole bytes due o is none = ap ok_answer is ∙ sym (ap (unless_exceeded due) none)
 
-pub told_refused : (due : List ℕ) (o : Option ℕ) (limit : ℕ) (a : Answer) → o ≡ Some limit → a ≡ refused (status.TooLarge limit) → a ≡ unless_passed due o
-told_refused due o limit a some is = is ∙ sym (ap (unless_passed due) some)
+pub told_refused : (due : List ℕ) (o : Option ℕ) (limit : ℕ) (a : Answer) → o ≡ Some limit → a ≡ refused (status.TooLarge limit) → a ≡ unless_exceeded due o
+told_refused due o limit a some is = is ∙ sym (ap (unless_exceeded due) some)
 
--- what is told of the world that steps behind a state lead to
-pub lost_resumed : (f : SavedState) (n : Script) (es : List Step) (b : WorldBook) (names : Bool) (x : ℕ) (bytes : List ℕ) → IsResumed f es b → n ≡ f.scenario
+-- what is told of the world that steps after a state lead to
+pub lost_resumed : (f : SavedState) (n : Script) (es : List Step) (b : WorldView) (names : Bool) (x : ℕ) (bytes : List ℕ) → IsResumed f es b → n ≡ f.scenario
     → ((w : World) → HasBrokers w b → bytes ≡ lost_text names n.setup w x) → bytes ≡ lost_text names f.scenario.setup (resumed f es) x
 lost_resumed f n es b names x bytes r same told =
     told (resumed f es) (sym r.stands.brokers) ∙ ap (λ (m : Script). lost_text names m.setup (resumed f es) x) same
@@ -162,9 +162,9 @@ abbrev IsTold : List ℕ → Bool → List ℕ → Script → Answer → Type 0
 IsTold name names input n a = a ≡ answer_to_losing name names (declaring name input (Ok n))
 
 told_name : (name input : List ℕ) (names : Bool) (n : Script) (k : ℕ) (a : Answer) → (is_among n.setup.clusters name ≡ true) × (k ≡ number_in n.setup.clusters name)
-    → a ≡ unless_passed (lost_text names n.setup (run n.setup n.steps) k) (passed_limit n) → IsTold name names input n a
+    → a ≡ unless_exceeded (lost_text names n.setup (run n.setup n.steps) k) (exceeded_limit n) → IsTold name names input n a
 told_name name input names n k a here is =
-    is ∙ (ap (λ (x : ℕ). unless_passed (lost_text names n.setup (run n.setup n.steps) x) (passed_limit n)) here.1
+    is ∙ (ap (λ (x : ℕ). unless_exceeded (lost_text names n.setup (run n.setup n.steps) x) (exceeded_limit n)) here.1
     ∙ sym (ap (λ (b : Bool). answer_to_losing name names (if b then Ok n else Err (undeclared input))) here.0))
 
 told_no_name : (name input : List ℕ) (names : Bool) (n : Script) (line : ℕ) (a : Answer) → is_among n.setup.clusters name ≡ false → line ≡ length (lines_of input) + 1
@@ -175,7 +175,7 @@ told_no_name name input names n line a none at is =
 
 pub told_declared : (name input : List ℕ) (names : Bool) (n : Script) (clusters : List (List ℕ)) (k : ℕ) (r : Result Answer Memory) → clusters ≡ n.setup.clusters
     → Some k ≡ (if is_among clusters name then Some (number_in clusters name) else None)
-    → IfOk r (λ a. a ≡ unless_passed (lost_text names n.setup (run n.setup n.steps) k) (passed_limit n)) → IfOk r (IsTold name names input n)
+    → IfOk r (λ a. a ≡ unless_exceeded (lost_text names n.setup (run n.setup n.steps) k) (exceeded_limit n)) → IfOk r (IsTold name names input n)
 told_declared name input names n clusters k (Ok a) same found is =
     let here = subst (λ (ns : List (List ℕ)). Some k ≡ (if is_among ns name then Some (number_in ns name) else None)) same found in
     told_name name input names n k a (named (is_among n.setup.clusters name) (number_in n.setup.clusters name) k here) is
@@ -205,9 +205,9 @@ IsToldOn name f lines es a = a ≡ answer_to_losing_on name f (declaring_on f.sc
 
 told_name_on : (name lines : List ℕ) (f : SavedState) (es : List Step) (k : ℕ) (a : Answer)
     → (is_among f.scenario.setup.clusters name ≡ true) × (k ≡ number_in f.scenario.setup.clusters name)
-    → a ≡ unless_passed (lost_text true f.scenario.setup (resumed f es) k) (resumed_limit f es) → IsToldOn name f lines es a
+    → a ≡ unless_exceeded (lost_text true f.scenario.setup (resumed f es) k) (resumed_limit f es) → IsToldOn name f lines es a
 told_name_on name lines f es k a here is =
-    is ∙ (ap (λ (x : ℕ). unless_passed (lost_text true f.scenario.setup (resumed f es) x) (resumed_limit f es)) here.1
+    is ∙ (ap (λ (x : ℕ). unless_exceeded (lost_text true f.scenario.setup (resumed f es) x) (resumed_limit f es)) here.1
     ∙ sym (ap (λ (b : Bool). answer_to_losing_on name f (if b then Ok es else Err (undeclared lines))) here.0))
 
 told_no_name_on : (name lines : List ℕ) (f : SavedState) (es : List Step) (line : ℕ) (a : Answer) → is_among f.scenario.setup.clusters name ≡ false
@@ -218,7 +218,7 @@ told_no_name_on name lines f es line a none at is =
 
 pub told_declared_on : (name lines : List ℕ) (f : SavedState) (es : List Step) (clusters : List (List ℕ)) (k : ℕ) (r : Result Answer Memory)
     → clusters ≡ f.scenario.setup.clusters → Some k ≡ (if is_among clusters name then Some (number_in clusters name) else None)
-    → IfOk r (λ a. a ≡ unless_passed (lost_text true f.scenario.setup (resumed f es) k) (resumed_limit f es)) → IfOk r (IsToldOn name f lines es)
+    → IfOk r (λ a. a ≡ unless_exceeded (lost_text true f.scenario.setup (resumed f es) k) (resumed_limit f es)) → IfOk r (IsToldOn name f lines es)
 told_declared_on name lines f es clusters k (Ok a) same found is =
     let s = f.scenario.setup in
     let here = subst (λ (ns : List (List ℕ)). Some k ≡ (if is_among ns name then Some (number_in ns name) else None)) same found in

@@ -12,7 +12,7 @@ use Rattle.geo_base.specs.declared.session.Session.{Session}
 use Rattle.geo_base.specs.Setup.{Setup}
 use Rattle.geo_base.specs.World.{World, opening_world}
 use Rattle.geo_base.specs.Worlds.{BrokerPlaces}
-use Rattle.world_kept.specs.Saved.{revived, world_from}
+use Rattle.kept_laws.specs.Saved.{revived, world_from}
 use Rattle.durable_parts.specs.Durable.{durable_part}
 use Rattle.script_text.specs.Lines.{lines_of}
 use Rattle.script_text.specs.Rules.{script_of}
@@ -30,7 +30,7 @@ use Rattle.geo_top.specs.declared.top.command.Shown.TheVariants as shown
 use Rattle.geo_top.specs.declared.top.status.Status.TheVariants as status
 use Rattle.geo_top.specs.Losing.{cluster_number, lost_of, lost_on}
 use Rattle.geo_top.specs.OneRun.{IsGoneOn, IsKept, IsSavedWith, IsTextOn, counted_on, lines_before, text_on}
-use Rattle.geo_top.specs.Outputs.{IsAnswerToFile, answer_to, answer_to_resumed, answer_to_run, passed_limit, refused, report_of, resumed_limit, resumed_report, unless_passed}
+use Rattle.geo_top.specs.Outputs.{IsAnswerToFile, answer_to, answer_to_resumed, answer_to_run, exceeded_limit, refused, report_of, resumed_limit, resumed_report, unless_exceeded}
 use Rattle.geo_top.specs.States.{gone_on, resumed_under, state_of_run, stopped}
 use Rattle.geo_top.proofs.Limits.{unlimited}
 use Rattle.geo_top.proofs.SavedWith.{answer_is}
@@ -80,7 +80,7 @@ losses_same law n name es kept =
     ∙ sym (same_brokers true s (run s (n.steps ++ step.Stop ∷ es)) (run_from no_limits s (begun (kept_behind s n.steps)) es).world x (law.script s n.steps es).brokers)
 
 -- and the same limit
-pub limits_same : (law : LawResumed) (n : Script) (es : List Step) → IsStart n.setup (opening_world n.setup) → world_from (state_of_run n) ≡ kept_behind n.setup n.steps → passed_limit (stopped n) ≡ None → (resumed_under all_limits (state_of_run n) es).ended ≡ (run_under all_limits n.setup (n.steps ++ step.Stop ∷ es)).ended
+pub limits_same : (law : LawResumed) (n : Script) (es : List Step) → IsStart n.setup (opening_world n.setup) → world_from (state_of_run n) ≡ kept_behind n.setup n.steps → exceeded_limit (stopped n) ≡ None → (resumed_under all_limits (state_of_run n) es).ended ≡ (run_under all_limits n.setup (n.steps ++ step.Stop ∷ es)).ended
 limits_same law n es start kept none =
     let s = n.setup in
     let there = run_from all_limits s (begun (opening_world s)) (n.steps ++ step.Stop ∷ []) in
@@ -88,11 +88,11 @@ limits_same law n es start kept none =
     let alike : RunsAlike (run_from all_limits s (begun (opening_world s)) (n.steps ++ step.Stop ∷ es)) (run_from all_limits s (begun (resumed_world s there.world)) es) = law.goes_on all_limits s law.limits.1 (opening_world s) start n.steps es none in
     ap (λ (w : World). (run_from all_limits s (begun w) es).ended) kept ∙ (ap (λ (w : World). (run_from all_limits s (begun (resumed_world s w)) es).ended) (sym same) ∙ sym alike.ended)
 
-pub answers_same : (law : LawResumed) (n m : Script) (es : List Step) → IsStart n.setup (opening_world n.setup) → world_from (state_of_run n) ≡ kept_behind n.setup n.steps → IsKept n → IsGoneOn n es m → answer_to_resumed (state_of_run n) (Ok es) ≡ answer_to_run shown.Report m (passed_limit m)
+pub answers_same : (law : LawResumed) (n m : Script) (es : List Step) → IsStart n.setup (opening_world n.setup) → world_from (state_of_run n) ≡ kept_behind n.setup n.steps → IsKept n → IsGoneOn n es m → answer_to_resumed (state_of_run n) (Ok es) ≡ answer_to_run shown.Report m (exceeded_limit m)
 answers_same law n m es start kept k is =
     let whole : report n.setup (run n.setup (n.steps ++ step.Stop ∷ es)) ≡ report_of m = ap (λ (s : _). report s (run s (n.steps ++ step.Stop ∷ es))) (sym is.0) ∙ ap (λ (fs : List Step). report m.setup (run m.setup fs)) (sym is.1) in
-    let limit : (run_under all_limits n.setup (n.steps ++ step.Stop ∷ es)).ended ≡ passed_limit m = ap (λ (s : _). (run_under all_limits s (n.steps ++ step.Stop ∷ es)).ended) (sym is.0) ∙ ap (λ (fs : List Step). (run_under all_limits m.setup fs).ended) (sym is.1) in
-    ap (λ (bytes : List ℕ). unless_passed bytes (resumed_under all_limits (state_of_run n) es).ended) (reports_same law n es kept ∙ whole) ∙ ap (unless_passed (report_of m)) (limits_same law n es start kept k.within ∙ limit)
+    let limit : (run_under all_limits n.setup (n.steps ++ step.Stop ∷ es)).ended ≡ exceeded_limit m = ap (λ (s : _). (run_under all_limits s (n.steps ++ step.Stop ∷ es)).ended) (sym is.0) ∙ ap (λ (fs : List Step). (run_under all_limits m.setup fs).ended) (sym is.1) in
+    ap (λ (bytes : List ℕ). unless_exceeded bytes (resumed_under all_limits (state_of_run n) es).ended) (reports_same law n es kept ∙ whole) ∙ ap (unless_exceeded (report_of m)) (limits_same law n es start kept k.within ∙ limit)
 
 -- ---- the text
 accepted_on : (r : Result Script Fault) (n : Script) (at : ℕ) (q : Result (List Step) Fault) (es : List Step) → r ≡ followed n at step.Stop q → q ≡ Ok es → (m : Script) × (r ≡ Ok m) × IsGoneOn n es m
@@ -121,11 +121,11 @@ pub files_same : (law : LawResumed) (text lines input : List ℕ) (n : Script) (
 files_same law text lines input n es a start kept is k said answer =
     let on = (text_is text lines n k.kept is).accepted es said in
     let own : a ≡ answer_to_resumed (state_of_run n) (schedule_of n.setup lines) = answer_is n lines input a k answer in
-    let goes : answer_to_resumed (state_of_run n) (Ok es) ≡ answer_to_run shown.Report on.0 (passed_limit on.0) = answers_same law n on.0 es start kept k.kept on.2 in
+    let goes : answer_to_resumed (state_of_run n) (Ok es) ≡ answer_to_run shown.Report on.0 (exceeded_limit on.0) = answers_same law n on.0 es start kept k.kept on.2 in
     own ∙ (ap (answer_to_resumed (state_of_run n)) said ∙ (goes ∙ sym (ap (answer_to shown.Report) on.1)))
 
--- an answer that refuses no line is the same behind other lines
-counted_passed : (before : ℕ) (bytes : List ℕ) (o : Option ℕ) → counted_on before (unless_passed bytes o) (unless_passed bytes o).status ≡ unless_passed bytes o
+-- an answer that refuses no line is the same after other lines
+counted_passed : (before : ℕ) (bytes : List ℕ) (o : Option ℕ) → counted_on before (unless_exceeded bytes o) (unless_exceeded bytes o).status ≡ unless_exceeded bytes o
 counted_passed before bytes None = refl
 counted_passed before bytes (Some limit) = refl
 

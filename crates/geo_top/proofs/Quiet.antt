@@ -7,9 +7,9 @@ use Rattle.geo_base.specs.Laws.{after_settling}
 use Rattle.geo_base.specs.Run.{Limits, Ran, is_quiet, no_limits, run, run_from, run_under, settled_world, steps}
 use Rattle.geo_base.specs.Setup.{Setup}
 use Rattle.geo_base.specs.World.{World, opening_world}
-use Rattle.script_inputs.specs.Drawing.{seeded}
-use Rattle.script_inputs.specs.Generated.{generated_run}
-use Rattle.script_inputs.specs.Schedule.{connects, finishes, generated_steps, opens, turns}
+use Rattle.script_generator.specs.Drawing.{seeded}
+use Rattle.script_generator.specs.Generated.{generated_run}
+use Rattle.script_generator.specs.Schedule.{connects, finishes, generated_steps, opens, turns}
 use Rattle.world_laws.proofs.Budget.InTime.{settles_in_time}
 use Rattle.geo_top.proofs.Limits.{never_ends}
 

@@ -7,24 +7,24 @@ use Rattle.geo_base.specs.World.{World}
 use Rattle.world.specs.declared.fault.RunFault.{RunFault}
 use Rattle.world.specs.declared.fault.RunFault.TheVariants as fault
 use Rattle.world.specs.Runs.{Comes, at_world}
-use Rattle.world_kept.specs.Saved.{world_from}
-use Rattle.world.specs.World.{IsAt, WorldBook, kept_of}
+use Rattle.kept_laws.specs.Saved.{world_from}
+use Rattle.world.specs.World.{IsAt, WorldView, kept_of}
 use Rattle.script_text.specs.Script.{Script}
 use Rattle.state_file.specs.State.{SavedState}
-use Rattle.world_kept.specs.Reached.{Reached}
-use Rattle.world_kept.specs.Standing.{Stands}
+use Rattle.kept_laws.specs.Reached.{Reached}
+use Rattle.kept_laws.specs.Standing.{Stands}
 use Rattle.geo_top.specs.Finished.{IsBegun, IsResumed}
 use Rattle.geo_top.specs.States.{resumed_under}
 use Rattle.geo_top.proofs.Limits.{unlimited_from}
 
 -- what a run of these steps leaves, by the setup of a script
-abbrev pub Runs : Script → WorldBook → WorldBook → List Step → Result (Unit {0}) RunFault → Type 0
+abbrev pub Runs : Script → WorldView → WorldView → List Step → Result (Unit {0}) RunFault → Type 0
 Runs n old new es r = (w : World) → Reached n.setup w → Stands n.setup (kept_of old) w → Comes n.setup new (run_from all_limits n.setup (at_world w) es) r
 
 ok_of : (X : Type 0) (r : Result (Unit {0}) RunFault) (u : Unit {0}) → r ≡ Ok u → OnOk r X → X
 ok_of X r u is h = subst (λ (r : Result (Unit {0}) RunFault). OnOk r X) is h
 
-pub resumed_ends : (f : SavedState) (n : Script) (old new : WorldBook) (es : List Step) (r : Result (Unit {0}) RunFault) (u : Unit {0}) → n ≡ f.scenario → IsBegun f old → Runs n old new es r → IsAt n.setup new → r ≡ Ok u → IsResumed f es new
+pub resumed_ends : (f : SavedState) (n : Script) (old new : WorldView) (es : List Step) (r : Result (Unit {0}) RunFault) (u : Unit {0}) → n ≡ f.scenario → IsBegun f old → Runs n old new es r → IsAt n.setup new → r ≡ Ok u → IsResumed f es new
 resumed_ends f n old new es r u same b runs at ok =
     let s = f.scenario.setup in
     let comes : Comes s new (resumed_under all_limits f es) r = subst (λ (m : Script). Runs m old new es r) same runs (world_from f) b.reached b.stands in
@@ -35,8 +35,8 @@ resumed_ends f n old new es r u same b runs at ok =
       stands = subst (λ (w : World). Stands s (kept_of new) w) (unlimited_from all_limits s (world_from f) es d.1) d.0;
     }
 
-pub resumed_passes : (f : SavedState) (n : Script) (old new : WorldBook) (es : List Step) (r : Result (Unit {0}) RunFault) (limit : ℕ) → n ≡ f.scenario → IsBegun f old → Runs n old new es r → r ≡ Err (fault.TooLarge limit) → (resumed_under all_limits f es).ended ≡ Some limit
-resumed_passes f n old new es r limit same b runs e =
+pub resumed_exceeds : (f : SavedState) (n : Script) (old new : WorldView) (es : List Step) (r : Result (Unit {0}) RunFault) (limit : ℕ) → n ≡ f.scenario → IsBegun f old → Runs n old new es r → r ≡ Err (fault.TooLarge limit) → (resumed_under all_limits f es).ended ≡ Some limit
+resumed_exceeds f n old new es r limit same b runs e =
     let s = f.scenario.setup in
     let comes : Comes s new (resumed_under all_limits f es) r = subst (λ (m : Script). Runs m old new es r) same runs (world_from f) b.reached b.stands in
     (comes.large limit e).1

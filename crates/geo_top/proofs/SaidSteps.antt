@@ -72,7 +72,7 @@ added_steps at s (heading.Headed k ws) = by (schedules k)
     by true = (step, refl)
     by false = (None, refl)
 
--- the steps behind a line
+-- the steps after a line
 judged_steps : (at : ℕ) (s t : SoFar) (l : TextLine) → is_skipped l.bytes ≡ false → judged at s l ≡ Ok t → (o : Option Step) × (t.steps ≡ with_step at s.steps o)
 judged_steps at s t l other is =
     let a = added at s (said_by l) in
@@ -87,7 +87,7 @@ first_kept : (at f : ℕ) (s : Steps) (o : Option Step) → s.first ≡ Some f �
 first_kept at f s None is = is
 first_kept at f s (Some e) is = ap (λ (first : Option ℕ). first_of first at) is
 
--- behind the first of them
+-- after the first of them
 script_many : (k f : ℕ) (s : SoFar) (ls : List TextLine) (t : Script) → s.steps.first ≡ Some f → script_from k s ls ≡ Ok t
     → (t.first_event ≡ Some f) × (length t.steps ≤ length s.steps.list + length (said_from k ls))
 script_many k f s [] t first is =
@@ -107,7 +107,7 @@ script_many k f s (l ∷ ls) t first is =
           rw other (rest.0, omega (arith, rest.1, one_more k s.steps o.0, ap (λ (q : Steps). length q.list) o.1))
     ]
 
--- from before it on: there is none, or it stands so many lines behind
+-- from before it on: there is none, or it stands so many lines after
 abbrev IsSaid : ℕ → List TextLine → Script → Type 0
 IsSaid k ls t =
     ((t.first_event ≡ None) × (t.steps ≡ [])) ⊎ ((i : ℕ) × (t.first_event ≡ Some (k + i)) × (length t.steps ≤ length (said_from (k + i) (drop i ls))))

@@ -1,4 +1,4 @@
--- What is answered to what `save` wrote, with lines behind it.
+-- What is answered to what `save` wrote, with lines after it.
 use Rattle.std.proofs.Common.{◌≡◌, ℕ, List, length, refl, ap, subst, ◌∙◌}
 use Rattle.std.proofs.Math.Seq.{drop-append_seam}
 use Rattle.std.specs.Prelude.{drop, Result, Ok, Err, IsOkAnd}
@@ -15,7 +15,7 @@ use Rattle.geo_top.specs.Outputs.{IsAnswerToFile, answer_to_loaded, answer_to_re
 use Rattle.geo_top.specs.States.{file_of, state_of_run}
 use Rattle.geo_top.proofs.Loaded.{loaded_again}
 
--- the lines behind the file's bytes
+-- the lines after the file's bytes
 lines_behind : (n : Script) (lines input : List ℕ) → IsSavedWith n lines input → drop (length (file_of n)) input ≡ lines
 lines_behind n lines input k = ap (drop (length (file_of n))) k.is ∙ drop-append_seam (file_of n) lines
 
@@ -27,7 +27,7 @@ pub answer_is : (n : Script) (lines input : List ℕ) (a : Answer) → IsSavedWi
 answer_is n lines input a k is =
     is.2 ∙ (ap (answer_to_loaded going_on.Report input) (state_loaded n lines input is.0 k is.1) ∙ ap (λ (bytes : List ℕ). answer_to_resumed (state_of_run n) (schedule_of n.setup bytes)) (lines_behind n lines input k))
 
--- what holds of the state that is loaded and the steps behind it
+-- what holds of the state that is loaded and the steps after it
 abbrev HoldsLoaded : (SavedState → List Step → Type 0) → List ℕ → SavedState × ℕ → Type 0
 HoldsLoaded P input x = IsOkAnd (schedule_of x.0.scenario.setup (drop x.1 input)) (P x.0)
 

@@ -5,7 +5,7 @@ use Rattle.geo_base.specs.declared.event.Step.{Step}
 use Rattle.geo_base.specs.declared.memory.Memory.{Memory}
 use Rattle.geo_base.specs.Report.{report}
 use Rattle.geo_base.specs.Run.{all_limits}
-use Rattle.world.specs.World.{WorldBook}
+use Rattle.world.specs.World.{WorldView}
 use Rattle.script_text.specs.Script.{Script}
 use Rattle.state_file.specs.Loading.{IsLoaded, bad_state, version}
 use Rattle.state_file.specs.State.{SavedState}
@@ -13,7 +13,7 @@ use Rattle.geo_top.specs.declared.top.answer.Answer.{Answer}
 use Rattle.geo_top.specs.declared.top.command.GoingOn.{GoingOn}
 use Rattle.geo_top.specs.declared.top.status.Status.TheVariants as status
 use Rattle.geo_top.specs.Finished.{IsResumed}
-use Rattle.geo_top.specs.Outputs.{IsAnswerToFile, answer_going_on, answer_to_resumed, answer_to_saved, answer_to_steps_on, passed_limit, refused, resumed_report, unless_passed}
+use Rattle.geo_top.specs.Outputs.{IsAnswerToFile, answer_going_on, answer_to_resumed, answer_to_saved, answer_to_steps_on, exceeded_limit, refused, resumed_report, unless_exceeded}
 use Rattle.geo_top.specs.Shown.{shown_world}
 use Rattle.geo_top.specs.Stepped.{steps_on}
 use Rattle.geo_top.specs.States.{file_of, resumed_under, stopped}
@@ -22,19 +22,19 @@ use Rattle.geo_top.proofs.Shown.{shown_resumed}
 abbrev ok_answer : List ℕ → Answer
 ok_answer bytes = record { status = status.Ok; bytes = bytes }
 
-whole : (bytes due : List ℕ) (o : Option ℕ) → bytes ≡ due → o ≡ None → ok_answer bytes ≡ unless_passed due o
-whole bytes due o is none = ap ok_answer is ∙ sym (ap (unless_passed due) none)
+whole : (bytes due : List ℕ) (o : Option ℕ) → bytes ≡ due → o ≡ None → ok_answer bytes ≡ unless_exceeded due o
+whole bytes due o is none = ap ok_answer is ∙ sym (ap (unless_exceeded due) none)
 
-over : (due : List ℕ) (o : Option ℕ) (limit : ℕ) (a : Answer) → o ≡ Some limit → a ≡ refused (status.TooLarge limit) → a ≡ unless_passed due o
-over due o limit a some is = is ∙ sym (ap (unless_passed due) some)
+over : (due : List ℕ) (o : Option ℕ) (limit : ℕ) (a : Answer) → o ≡ Some limit → a ≡ refused (status.TooLarge limit) → a ≡ unless_exceeded due o
+over due o limit a some is = is ∙ sym (ap (unless_exceeded due) some)
 
-pub saved_whole : (n : Script) (bytes : List ℕ) → bytes ≡ file_of n → passed_limit (stopped n) ≡ None → ok_answer bytes ≡ answer_to_saved n
-saved_whole n bytes is none = whole bytes (file_of n) (passed_limit (stopped n)) is none
+pub saved_whole : (n : Script) (bytes : List ℕ) → bytes ≡ file_of n → exceeded_limit (stopped n) ≡ None → ok_answer bytes ≡ answer_to_saved n
+saved_whole n bytes is none = whole bytes (file_of n) (exceeded_limit (stopped n)) is none
 
-pub saved_refused : (n : Script) (limit : ℕ) (a : Answer) → passed_limit (stopped n) ≡ Some limit → a ≡ refused (status.TooLarge limit) → a ≡ answer_to_saved n
-saved_refused n limit a some is = over (file_of n) (passed_limit (stopped n)) limit a some is
+pub saved_refused : (n : Script) (limit : ℕ) (a : Answer) → exceeded_limit (stopped n) ≡ Some limit → a ≡ refused (status.TooLarge limit) → a ≡ answer_to_saved n
+saved_refused n limit a some is = over (file_of n) (exceeded_limit (stopped n)) limit a some is
 
-pub resumed_bytes : (f : SavedState) (n : Script) (es : List Step) (b : WorldBook) (bytes : List ℕ) → IsResumed f es b → n ≡ f.scenario → bytes ≡ report n.setup (shown_world b)
+pub resumed_bytes : (f : SavedState) (n : Script) (es : List Step) (b : WorldView) (bytes : List ℕ) → IsResumed f es b → n ≡ f.scenario → bytes ≡ report n.setup (shown_world b)
     → bytes ≡ resumed_report f es
 resumed_bytes f n es b bytes r same is = shown_resumed f es b bytes r (is ∙ ap (λ (m : Script). report m.setup (shown_world b)) same)
 

@@ -3,7 +3,7 @@
 use Rattle.std.proofs.Common.{◌≡◌, ℕ, zero, suc, ◌+◌, ◌*◌, ◌^◌, ◌<◌, ◌≤◌, List, [], ◌∷◌, ◌++◌, length, map, sym, ap, subst, ◌∙◌, ◌==◌, arith, length-append}
 use Rattle.std.specs.Prelude.{Option, Some, None, drop, sum, take}
 use Rattle.std.specs.List.{range_with_len}
-use Rattle.std.proofs.Math.Nat.{mul-suc, one-mul, pow-suc, pow-zero}
+use Rattle.std.proofs.Math.Nat.{mul-suc}
 use Rattle.std.proofs.lemmas.List.{length-map, take-append-drop}
 use Rattle.std.proofs.lemmas.List.FromFn.{length-range_with_len}
 use Rattle.std.proofs.lemmas.Nat.{mul-le}
@@ -29,6 +29,7 @@ use Rattle.geo_top.proofs.FewEvents.{ran_few}
 use Rattle.geo_top.proofs.Limits.{never_ends, steps_back, unlimited}
 use Rattle.geo_top.proofs.Quiet.{run_append}
 use Rattle.geo_top.proofs.Waiting.{AreSmall, IsFew, few_kept, small_kept, waiting_few}
+use Rattle.geo_base.proofs.Sums.{cube}
 
 -- ---- how many pairs of clusters there are
 to_most : (t x : ℕ) (ys : List ℕ) → length (pairs_to t x ys) ≤ length ys
@@ -69,8 +70,6 @@ resets_most s k scripted =
     taken (suc k) (e ∷ es) = let h = taken k es in omega (arith, h)
 
 -- ---- how large the budget is
-cube : (n : ℕ) → n ^ 3 ≡ n * n * n
-cube n = pow-suc n 2 ∙ ap (λ (k : ℕ). k * n) (pow-suc n 1 ∙ ap (λ (k : ℕ). k * n) (pow-suc n 0 ∙ ap (λ (k : ℕ). k * n) (pow-zero n) ∙ one-mul n))
 
 share_most : (n : ℕ) → n ≤ 8 → 8 * n ^ 3 ≤ 4096
 share_most n le =
@@ -90,9 +89,9 @@ waits_most : (s : Setup) → IsScripted s → (w : World) → IsLeft s w
 waits_most s scripted w left =
     let h = waiting_few w left.small left.held in
     let few = left.few in
-    let nodes = mul-le (length s.topics) (length s.clusters) 16 8 scripted.topics.1 scripted.clusters.1 in
+    let brokers = mul-le (length s.topics) (length s.clusters) 16 8 scripted.topics.1 scripted.clusters.1 in
     let size = left.places.brokers in
-    let topics = scripted.topics.1 in omega (arith, h, few, nodes, size, topics)
+    let topics = scripted.topics.1 in omega (arith, h, few, brokers, size, topics)
 
 budget_most : (s : Setup) → IsScripted s → (w : World) → IsLeft s w → budget s w ≤ 409604194304
 budget_most s scripted w left =
@@ -159,7 +158,7 @@ part_within s es xs ys is none =
     steps_back all_limits s (run_under all_limits s xs) ys
     (ap (λ (r : Ran). r.ended) (sym (ap (run_under all_limits s) is ∙ run_append all_limits s opening xs ys)) ∙ none)
 
--- so where a run passes no limit, each beginning of it is short, and any settling behind that
+-- so where a run passes no limit, each beginning of it is short, and any settling after that
 pub part_short : (s : Setup) → IsScripted s → (es xs ys : List Step) → es ≡ xs ++ ys → (run_under all_limits s es).ended ≡ None → (at : Settling)
     → IsShort (world_between no_limits s xs at)
 part_short s scripted es xs ys is none at = run_short s scripted xs (unlimited all_limits s xs (part_within s es xs ys is none)) at

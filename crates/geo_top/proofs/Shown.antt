@@ -6,10 +6,10 @@ use Rattle.geo_base.specs.Report.{broker_lines, client_line, client_lines, clust
 use Rattle.geo_base.specs.Run.{run}
 use Rattle.geo_base.specs.Setup.{Declared, Setup}
 use Rattle.geo_base.specs.World.{World, client_at, topic_at}
-use Rattle.world.specs.World.{WorldBook, kept_of}
-use Rattle.script_inputs.specs.Generated.{generated_run}
+use Rattle.world.specs.World.{WorldView, kept_of}
+use Rattle.script_generator.specs.Generated.{generated_run}
 use Rattle.script_text.specs.Script.{Script}
-use Rattle.world_kept.specs.Standing.{Stands}
+use Rattle.kept_laws.specs.Standing.{Stands}
 use Rattle.state_file.specs.State.{SavedState}
 use Rattle.geo_top.specs.Finished.{IsFinished, IsResumed}
 use Rattle.geo_top.specs.Outputs.{report_of, resumed_report, summary_of}
@@ -20,7 +20,7 @@ use Rattle.geo_top.specs.Summary.{big_line, stored_line, stored_lines, summary, 
 abbrev pub unlinked : World → World
 unlinked w = record w { links = no_links }
 
-pub shown_is : (s : Setup) (b : WorldBook) (w : World) → Stands s (kept_of b) w → shown_world b ≡ unlinked w
+pub shown_is : (s : Setup) (b : WorldView) (w : World) → Stands s (kept_of b) w → shown_world b ≡ unlinked w
 shown_is s b w h = cc (h.brokers, h.clients, h.broker_clocks, h.client_clocks, h.events, h.idle, h.rounds, h.frame_bytes)
 
 same_clusters : (s : Setup) (w : World) (t : ℕ) (topic : List ℕ) (x : ℕ) (ns : List (List ℕ)) → cluster_lines s (unlinked w) t topic x ns ≡ cluster_lines s w t topic x ns
@@ -57,24 +57,24 @@ same_summary number s w =
     ap (λ (ls : List (List ℕ)). with_line_feeds (big_line number ∷ ls ++ (codes "quiet" ∷ head_line w ∷ []))) (same_stored s w 0 s.clusters)
 
 -- the report that is shown of a world is that of the machine's
-pub shown_same : (s : Setup) (b : WorldBook) (w : World) → Stands s (kept_of b) w → report s (shown_world b) ≡ report s w
+pub shown_same : (s : Setup) (b : WorldView) (w : World) → Stands s (kept_of b) w → report s (shown_world b) ≡ report s w
 shown_same s b w h = ap (report s) (shown_is s b w h) ∙ same_report s w
 
-pub shown_report : (n : Script) (b : WorldBook) (bytes : List ℕ) → IsFinished n b → bytes ≡ report n.setup (shown_world b) → bytes ≡ report_of n
+pub shown_report : (n : Script) (b : WorldView) (bytes : List ℕ) → IsFinished n b → bytes ≡ report n.setup (shown_world b) → bytes ≡ report_of n
 shown_report n b bytes f is =
     let w = run n.setup n.steps in is ∙ (ap (report n.setup) (shown_is n.setup b w f.stands) ∙ same_report n.setup w)
 
-summed_up : (number : ℕ) (n : Script) (b : WorldBook) (bytes : List ℕ) → IsFinished n b → bytes ≡ summary number n.setup (shown_world b)
+summed_up : (number : ℕ) (n : Script) (b : WorldView) (bytes : List ℕ) → IsFinished n b → bytes ≡ summary number n.setup (shown_world b)
     → bytes ≡ summary number n.setup (run n.setup n.steps)
 summed_up number n b bytes f is =
     let w = run n.setup n.steps in is ∙ (ap (summary number n.setup) (shown_is n.setup b w f.stands) ∙ same_summary number n.setup w)
 
-pub shown_summary : (number : ℕ) (n : Script) (b : WorldBook) (bytes : List ℕ) → n ≡ generated_run number → IsFinished n b
+pub shown_summary : (number : ℕ) (n : Script) (b : WorldView) (bytes : List ℕ) → n ≡ generated_run number → IsFinished n b
     → bytes ≡ summary number n.setup (shown_world b) → bytes ≡ summary_of number
 shown_summary number n b bytes generated f is =
     summed_up number n b bytes f is ∙ ap (λ (m : Script). summary number m.setup (run m.setup m.steps)) generated
 
-pub shown_resumed : (f : SavedState) (es : List Step) (b : WorldBook) (bytes : List ℕ) → IsResumed f es b → bytes ≡ report f.scenario.setup (shown_world b) → bytes ≡ resumed_report f es
+pub shown_resumed : (f : SavedState) (es : List Step) (b : WorldView) (bytes : List ℕ) → IsResumed f es b → bytes ≡ report f.scenario.setup (shown_world b) → bytes ≡ resumed_report f es
 shown_resumed f es b bytes r is =
     let s = f.scenario.setup in
     let w = resumed f es in is ∙ (ap (report s) (shown_is s b w r.stands) ∙ same_report s w)

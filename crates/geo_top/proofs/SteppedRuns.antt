@@ -10,7 +10,7 @@ use Rattle.script_rows.specs.Names.{Names}
 use Rattle.script_rows.specs.Written.{step_line}
 use Rattle.script_text.specs.Canonical.{declarations_text}
 use Rattle.script_text.specs.Naming.{names_of}
-use Rattle.script_inputs.specs.Generated.{generated_run}
+use Rattle.script_generator.specs.Generated.{generated_run}
 use Rattle.script_text.specs.Lines.{lines_of}
 use Rattle.script_text.specs.Said.{Said, said_from, said_in}
 use Rattle.script_text.specs.Schedule.{schedule_text}
@@ -24,16 +24,16 @@ use Rattle.world.specs.declared.fault.RunFault.{RunFault}
 use Rattle.world.specs.declared.fault.RunFault.TheVariants as fault
 use Rattle.world.specs.Observing.{run_seen}
 use Rattle.world.specs.Runs.{Comes, at_world}
-use Rattle.world.specs.World.{WorldBook, kept_of}
-use Rattle.world_kept.proofs.Keeping.{opening}
-use Rattle.world_kept.proofs.Reaching.{opening_reached}
-use Rattle.world_kept.specs.Kept.{Kept, opening_kept}
-use Rattle.world_kept.specs.Reached.{Reached}
-use Rattle.world_kept.specs.Saved.{world_from}
-use Rattle.world_kept.specs.Standing.{Stands}
+use Rattle.world.specs.World.{WorldView, kept_of}
+use Rattle.kept_laws.proofs.Keeping.{opening}
+use Rattle.kept_laws.proofs.Reaching.{opening_reached}
+use Rattle.kept_laws.specs.Kept.{Kept, opening_kept}
+use Rattle.kept_laws.specs.Reached.{Reached}
+use Rattle.kept_laws.specs.Saved.{world_from}
+use Rattle.kept_laws.specs.Standing.{Stands}
 use Rattle.geo_top.specs.declared.top.answer.Answer.{Answer}
 use Rattle.geo_top.specs.declared.top.status.Status.TheVariants as status
-use Rattle.geo_top.specs.Outputs.{answer_to_big_steps, answer_to_steps, big_steps, passed_limit, refused, resumed_limit, unless_passed}
+use Rattle.geo_top.specs.Outputs.{answer_to_big_steps, answer_to_steps, big_steps, exceeded_limit, refused, resumed_limit, unless_exceeded}
 use Rattle.geo_top.specs.Shown.{shown_world}
 use Rattle.geo_top.specs.Stepped.{steps_by_schedule, steps_of, steps_on, steps_text}
 use Rattle.geo_top.proofs.Shown.{shown_same}
@@ -62,7 +62,7 @@ whole n w said es =
     put d first r told last = simp append_assoc
 
 -- the counts that are shown of a world are those of the machine's
-counts_same : (s : Setup) (b : WorldBook) (w : World) → Stands s (kept_of b) w → head_line (shown_world b) ≡ head_line w
+counts_same : (s : Setup) (b : WorldView) (w : World) → Stands s (kept_of b) w → head_line (shown_world b) ≡ head_line w
 counts_same s b w h = cc (h.events, h.idle, h.rounds)
 
 ok_of : {T : Type 0} (X : Type 0) (r : Result T RunFault) (t : T) → r ≡ Ok t → OnOk r X → X
@@ -74,14 +74,14 @@ pub begins_telling : (s : Setup) (own names : Names) (t : Telling) (head : List 
 begins_telling s own names t head said is same there rises = record { names = same ∙ there; rises = subst (λ (u : Telling). Rises u.number u.said) (sym is) rises }
 
 -- what a run leaves of an observer that had seen head and lines, and had told no step
-abbrev pub Sees : Script → WorldBook → List Step → Telling → Telling → Result (Unit {0}) RunFault → Type 0
+abbrev pub Sees : Script → WorldView → List Step → Telling → Telling → Result (Unit {0}) RunFault → Type 0
 Sees n old es before after r =
     (w : World) → Reached n.setup w → Stands n.setup (kept_of old) w → OnOk r (after ≡ run_seen told_steps all_limits n.setup (at_world w) es before)
 
-abbrev pub Runs : {T : Type 0} → Script → WorldBook → WorldBook → List Step → Result T RunFault → Type 0
+abbrev pub Runs : {T : Type 0} → Script → WorldView → WorldView → List Step → Result T RunFault → Type 0
 Runs n old new es r = (w : World) → Reached n.setup w → Stands n.setup (kept_of old) w → Comes n.setup new (run_from all_limits n.setup (at_world w) es) r
 
-pub told_run : (n : Script) (old new : WorldBook) (es : List Step) (said : List Said) (head text : List ℕ) (before after : Telling) (r : Result (Unit {0}) RunFault) (u : Unit {0})
+pub told_run : (n : Script) (old new : WorldView) (es : List Step) (said : List Said) (head text : List ℕ) (before after : Telling) (r : Result (Unit {0}) RunFault) (u : Unit {0})
     → length es ≤ length said → head ≡ (declarations_text n.setup n.chance ++ (codes "steps" ++ 10 ∷ [])) ++ report n.setup (shown_world old)
     → before ≡ record { text = head; number = 0; said = said } → Sees n old es before after r → Runs n old new es r → r ≡ Ok u
     → text ≡ after.text ++ (head_line (shown_world new) ++ 10 ∷ [])
@@ -100,41 +100,41 @@ told_run n old new es said head text before after r u many head_is begins sees r
     ∙ whole n w said es))
 
 -- how it ends
-pub ran_within : (n : Script) (old new : WorldBook) (es : List Step) (r : Result (Unit {0}) RunFault) (u : Unit {0}) → Runs n old new es r → r ≡ Ok u
+pub ran_within : (n : Script) (old new : WorldView) (es : List Step) (r : Result (Unit {0}) RunFault) (u : Unit {0}) → Runs n old new es r → r ≡ Ok u
     → (w : World) → Reached n.setup w → Stands n.setup (kept_of old) w → (run_from all_limits n.setup (at_world w) es).ended ≡ None
 ran_within n old new es r u runs ok w reached stands = (ok_of _ r u ok (runs w reached stands).done).1
 
-pub ran_large : (n : Script) (old new : WorldBook) (es : List Step) (r : Result (Unit {0}) RunFault) (limit : ℕ) → Runs n old new es r → r ≡ Err (fault.TooLarge limit)
+pub ran_large : (n : Script) (old new : WorldView) (es : List Step) (r : Result (Unit {0}) RunFault) (limit : ℕ) → Runs n old new es r → r ≡ Err (fault.TooLarge limit)
     → (w : World) → Reached n.setup w → Stands n.setup (kept_of old) w → (run_from all_limits n.setup (at_world w) es).ended ≡ Some limit
 ran_large n old new es r limit runs is w reached stands = ((runs w reached stands).large limit is).1
 
 -- ---- a run of a script, from its opening world on
-abbrev pub Tells : Script → WorldBook → List Step → List Said → Result (List ℕ) RunFault → Type 0
+abbrev pub Tells : Script → WorldView → List Step → List Said → Result (List ℕ) RunFault → Type 0
 Tells n old es said r = (w : World) → Reached n.setup w → Stands n.setup (kept_of old) w → IfOk r (λ bytes. bytes ≡ steps_text n w said es)
 
-opens : (s : Setup) (old : WorldBook) → kept_of old ≡ opening_kept s → Stands s (kept_of old) (opening_world s)
+opens : (s : Setup) (old : WorldView) → kept_of old ≡ opening_kept s → Stands s (kept_of old) (opening_world s)
 opens s old is = subst (λ (k : Kept). Stands s k (opening_world s)) (sym is) (opening s)
 
-pub stepped_run : (text : List ℕ) (n : Script) (old : WorldBook) (es : List Step) (said : List Said) (r : Result (List ℕ) RunFault) → kept_of old ≡ opening_kept n.setup → es ≡ n.steps
+pub stepped_run : (text : List ℕ) (n : Script) (old : WorldView) (es : List Step) (said : List Said) (r : Result (List ℕ) RunFault) → kept_of old ≡ opening_kept n.setup → es ≡ n.steps
     → said ≡ said_in n.first_event text → Tells n old es said r → IfOk r (λ bytes. bytes ≡ steps_of text n)
 stepped_run text n old es said r opening steps lines tells =
     let s = n.setup in
     subst (λ (fs : List Step). IfOk r (λ bytes. bytes ≡ steps_text n (opening_world s) (said_in n.first_event text) fs)) steps
     (subst (λ (at : List Said). IfOk r (λ bytes. bytes ≡ steps_text n (opening_world s) at es)) lines (tells (opening_world s) (opening_reached s) (opens s old opening)))
 
-abbrev pub Ends : {T : Type 0} → Script → WorldBook → List Step → Result T RunFault → Type 0
+abbrev pub Ends : {T : Type 0} → Script → WorldView → List Step → Result T RunFault → Type 0
 Ends n old es r = (w : World) → Reached n.setup w → Stands n.setup (kept_of old) w → OnOk r ((run_from all_limits n.setup (at_world w) es).ended ≡ None)
 
-abbrev pub Passes : Script → WorldBook → List Step → ℕ → Type 0
-Passes n old es limit = (w : World) → Reached n.setup w → Stands n.setup (kept_of old) w → (run_from all_limits n.setup (at_world w) es).ended ≡ Some limit
+abbrev pub Exceeds : Script → WorldView → List Step → ℕ → Type 0
+Exceeds n old es limit = (w : World) → Reached n.setup w → Stands n.setup (kept_of old) w → (run_from all_limits n.setup (at_world w) es).ended ≡ Some limit
 
-pub stepped_within : {T : Type 0} (n : Script) (old : WorldBook) (es : List Step) (r : Result T RunFault) → kept_of old ≡ opening_kept n.setup → es ≡ n.steps → Ends n old es r
-    → OnOk r (passed_limit n ≡ None)
+pub stepped_within : {T : Type 0} (n : Script) (old : WorldView) (es : List Step) (r : Result T RunFault) → kept_of old ≡ opening_kept n.setup → es ≡ n.steps → Ends n old es r
+    → OnOk r (exceeded_limit n ≡ None)
 stepped_within n old es r opening steps ends =
     let s = n.setup in
     subst (λ (fs : List Step). OnOk r ((run_from all_limits s (at_world (opening_world s)) fs).ended ≡ None)) steps (ends (opening_world s) (opening_reached s) (opens s old opening))
 
-pub stepped_large : (n : Script) (old : WorldBook) (es : List Step) (limit : ℕ) → kept_of old ≡ opening_kept n.setup → es ≡ n.steps → Passes n old es limit → passed_limit n ≡ Some limit
+pub stepped_large : (n : Script) (old : WorldView) (es : List Step) (limit : ℕ) → kept_of old ≡ opening_kept n.setup → es ≡ n.steps → Exceeds n old es limit → exceeded_limit n ≡ Some limit
 stepped_large n old es limit opening steps passes =
     let s = n.setup in
     subst (λ (fs : List Step). (run_from all_limits s (at_world (opening_world s)) fs).ended ≡ Some limit) steps (passes (opening_world s) (opening_reached s) (opens s old opening))
@@ -143,32 +143,32 @@ stepped_large n old es limit opening steps passes =
 abbrev ok_answer : List ℕ → Answer
 ok_answer bytes = record { status = status.Ok; bytes = bytes }
 
-pub told_whole : (text : List ℕ) (n : Script) (bytes : List ℕ) → passed_limit n ≡ None → bytes ≡ steps_of text n → ok_answer bytes ≡ answer_to_steps text (Ok n)
-told_whole text n bytes within is = ap ok_answer is ∙ sym (ap (unless_passed (steps_of text n)) within)
+pub told_whole : (text : List ℕ) (n : Script) (bytes : List ℕ) → exceeded_limit n ≡ None → bytes ≡ steps_of text n → ok_answer bytes ≡ answer_to_steps text (Ok n)
+told_whole text n bytes within is = ap ok_answer is ∙ sym (ap (unless_exceeded (steps_of text n)) within)
 
-pub told_refused : (text : List ℕ) (n : Script) (limit : ℕ) (a : Answer) → passed_limit n ≡ Some limit → a ≡ refused (status.TooLarge limit) → a ≡ answer_to_steps text (Ok n)
-told_refused text n limit a some is = is ∙ sym (ap (unless_passed (steps_of text n)) some)
+pub told_refused : (text : List ℕ) (n : Script) (limit : ℕ) (a : Answer) → exceeded_limit n ≡ Some limit → a ≡ refused (status.TooLarge limit) → a ≡ answer_to_steps text (Ok n)
+told_refused text n limit a some is = is ∙ sym (ap (unless_exceeded (steps_of text n)) some)
 
 -- ---- a run that goes on from a state
 -- the world stands for the one from which it goes on
-abbrev pub IsFrom : SavedState → WorldBook → Type 0
+abbrev pub IsFrom : SavedState → WorldView → Type 0
 IsFrom f old = Reached f.scenario.setup (world_from f) × Stands f.scenario.setup (kept_of old) (world_from f)
 
-pub stepped_on : (f : SavedState) (n : Script) (lines : List ℕ) (old : WorldBook) (es : List Step) (said : List Said) (r : Result (List ℕ) RunFault) → n ≡ f.scenario → IsFrom f old
+pub stepped_on : (f : SavedState) (n : Script) (lines : List ℕ) (old : WorldView) (es : List Step) (said : List Said) (r : Result (List ℕ) RunFault) → n ≡ f.scenario → IsFrom f old
     → said ≡ said_from 1 (lines_of lines) → Tells n old es said r → IfOk r (λ bytes. bytes ≡ steps_on f lines es)
 stepped_on f n lines old es said r same b at tells =
     let there : Tells f.scenario old es said r = subst (λ (m : Script). Tells m old es said r) same tells in
     subst (λ (at : List Said). IfOk r (λ bytes. bytes ≡ steps_text f.scenario (world_from f) at es)) at (there (world_from f) b.0 b.1)
 
-pub stepped_on_within : {T : Type 0} (f : SavedState) (n : Script) (old : WorldBook) (es : List Step) (r : Result T RunFault) → n ≡ f.scenario → IsFrom f old → Ends n old es r
+pub stepped_on_within : {T : Type 0} (f : SavedState) (n : Script) (old : WorldView) (es : List Step) (r : Result T RunFault) → n ≡ f.scenario → IsFrom f old → Ends n old es r
     → OnOk r (resumed_limit f es ≡ None)
 stepped_on_within f n old es r same b ends = let there : Ends f.scenario old es r = subst (λ (m : Script). Ends m old es r) same ends in there (world_from f) b.0 b.1
 
-pub stepped_on_large : (f : SavedState) (n : Script) (old : WorldBook) (es : List Step) (limit : ℕ) → n ≡ f.scenario → IsFrom f old → Passes n old es limit → resumed_limit f es ≡ Some limit
-stepped_on_large f n old es limit same b passes = let there : Passes f.scenario old es limit = subst (λ (m : Script). Passes m old es limit) same passes in there (world_from f) b.0 b.1
+pub stepped_on_large : (f : SavedState) (n : Script) (old : WorldView) (es : List Step) (limit : ℕ) → n ≡ f.scenario → IsFrom f old → Exceeds n old es limit → resumed_limit f es ≡ Some limit
+stepped_on_large f n old es limit same b passes = let there : Exceeds f.scenario old es limit = subst (λ (m : Script). Exceeds m old es limit) same passes in there (world_from f) b.0 b.1
 
 -- ---- a run that no text said
-pub scheduled_run : (n : Script) (text : List ℕ) (old : WorldBook) (es : List Step) (said : List Said) (r : Result (List ℕ) RunFault) → kept_of old ≡ opening_kept n.setup → es ≡ n.steps
+pub scheduled_run : (n : Script) (text : List ℕ) (old : WorldView) (es : List Step) (said : List Said) (r : Result (List ℕ) RunFault) → kept_of old ≡ opening_kept n.setup → es ≡ n.steps
     → text ≡ schedule_text (names_of n.setup) es → said ≡ said_from 1 (lines_of text) → Tells n old es said r → IfOk r (λ bytes. bytes ≡ steps_by_schedule n)
 scheduled_run n text old es said r opening steps written lines tells =
     let s = n.setup in
@@ -176,10 +176,10 @@ scheduled_run n text old es said r opening steps written lines tells =
     subst (λ (fs : List Step). IfOk r (λ bytes. bytes ≡ steps_text n (opening_world s) (said_from 1 (lines_of (schedule_text (names_of s) fs))) fs)) steps
     (subst (λ (at : List Said). IfOk r (λ bytes. bytes ≡ steps_text n (opening_world s) at es)) is (tells (opening_world s) (opening_reached s) (opens s old opening)))
 
-pub big_whole : (number : ℕ) (n : Script) (bytes : List ℕ) → n ≡ generated_run number → passed_limit n ≡ None → bytes ≡ steps_by_schedule n → ok_answer bytes ≡ answer_to_big_steps number
+pub big_whole : (number : ℕ) (n : Script) (bytes : List ℕ) → n ≡ generated_run number → exceeded_limit n ≡ None → bytes ≡ steps_by_schedule n → ok_answer bytes ≡ answer_to_big_steps number
 big_whole number n bytes generated none is =
-    ap ok_answer (is ∙ ap steps_by_schedule generated) ∙ sym (ap (unless_passed (big_steps number)) (ap passed_limit (sym generated) ∙ none))
+    ap ok_answer (is ∙ ap steps_by_schedule generated) ∙ sym (ap (unless_exceeded (big_steps number)) (ap exceeded_limit (sym generated) ∙ none))
 
-pub big_refused : (number : ℕ) (n : Script) (limit : ℕ) (a : Answer) → n ≡ generated_run number → passed_limit n ≡ Some limit → a ≡ refused (status.TooLarge limit)
+pub big_refused : (number : ℕ) (n : Script) (limit : ℕ) (a : Answer) → n ≡ generated_run number → exceeded_limit n ≡ Some limit → a ≡ refused (status.TooLarge limit)
     → a ≡ answer_to_big_steps number
-big_refused number n limit a generated some is = is ∙ sym (ap (unless_passed (big_steps number)) (ap passed_limit (sym generated) ∙ some))
+big_refused number n limit a generated some is = is ∙ sym (ap (unless_exceeded (big_steps number)) (ap exceeded_limit (sym generated) ∙ some))

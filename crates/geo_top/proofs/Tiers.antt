@@ -8,15 +8,15 @@ use Rattle.geo_base.specs.Report.{entry_lines, with_line_feeds}
 use Rattle.geo_base.specs.Run.{all_limits, run}
 use Rattle.geo_base.specs.Setup.{Setup}
 use Rattle.geo_base.specs.World.{World, node, topic_at}
-use Rattle.broker.specs.Node.{BrokerBook}
+use Rattle.broker.specs.Node.{BrokerView}
 use Rattle.file_laws.proofs.Ledgers.{readable_law, readable_tellable}
-use Rattle.topic_upkeep.specs.Readable.{AreTellable}
+use Rattle.tiered_storage.specs.Readable.{AreTellable}
 use Rattle.report_lines.proofs.Added.{line_added}
 use Rattle.report_lines.proofs.Parts.{lines_added}
 use Rattle.report_lines.specs.Tiers.{moved_ledgers, moved_line, tier_lines}
 use Rattle.script_text.specs.Scenario.{IsScenario}
 use Rattle.script_text.specs.Script.{Script}
-use Rattle.world.specs.World.{IsAt, WorldBook, node_at}
+use Rattle.world.specs.World.{IsAt, WorldView, node_at}
 use Rattle.geo_top.specs.Finished.{IsFinished}
 use Rattle.geo_top.specs.Shown.{shown_world}
 use Rattle.geo_top.specs.Tiered.{AreTopicsTellable, tiered, tiers_at, tiers_of}
@@ -26,7 +26,7 @@ use Rattle.geo_top.proofs.Shown.{shown_is, unlinked}
 
 -- ---- what a run stores can move
 
-pub finished_tellable : (n : Script) (b : WorldBook) → IsScenario n → IsFinished n b → AreTopicsTellable n.setup (shown_world b)
+pub finished_tellable : (n : Script) (b : WorldView) → IsScenario n → IsFinished n b → AreTopicsTellable n.setup (shown_world b)
 finished_tellable n b scenario f t x topic cluster =
     subst (λ (w : World). AreTellable n.setup.clusters x (topic_at n.setup w t x).entries)
     (sym (shown_is n.setup b (run n.setup n.steps) f.stands ∙ ap unlinked (sym (unlimited all_limits n.setup n.steps f.unlimited))))
@@ -34,21 +34,21 @@ finished_tellable n b scenario f t x topic cluster =
 
 -- ---- a topic at each cluster, and all topics
 
-module _ (s : Setup) (b : WorldBook) (at : IsAt s b) (t x : ℕ) (topic : t < length s.topics) (cluster : x < length s.clusters) where
+module _ (s : Setup) (b : WorldView) (at : IsAt s b) (t x : ℕ) (topic : t < length s.topics) (cluster : x < length s.clusters) where
   abbrev there : Broker
   there = topic_at s (shown_world b) t x
 
   -- the store of a broker has what the broker is shown with
-  pub entries_there : (v : BrokerBook) (es : List Entry) → v ≡ node_at b.nodes (node s t x) → es ≡ v.broker.entries → es ≡ there.entries
-  entries_there v es is stored = stored ∙ ap (λ (c : Broker). c.entries) (ap (λ (u : BrokerBook). u.broker) is ∙ broker_there s b at t x topic cluster)
+  pub entries_there : (v : BrokerView) (es : List Entry) → v ≡ node_at b.brokers (node s t x) → es ≡ v.broker.entries → es ≡ there.entries
+  entries_there v es is stored = stored ∙ ap (λ (c : Broker). c.entries) (ap (λ (u : BrokerView). u.broker) is ∙ broker_there s b at t x topic cluster)
 
-  ledgers_there : (v : BrokerBook) (ls : List ℕ) → v ≡ node_at b.nodes (node s t x) → ls ≡ v.broker.ledgers → ls ≡ there.ledgers
-  ledgers_there v ls is stored = stored ∙ ap (λ (c : Broker). c.ledgers) (ap (λ (u : BrokerBook). u.broker) is ∙ broker_there s b at t x topic cluster)
+  ledgers_there : (v : BrokerView) (ls : List ℕ) → v ≡ node_at b.brokers (node s t x) → ls ≡ v.broker.ledgers → ls ≡ there.ledgers
+  ledgers_there v ls is stored = stored ∙ ap (λ (c : Broker). c.ledgers) (ap (λ (u : BrokerView). u.broker) is ∙ broker_there s b at t x topic cluster)
 
-  per_there : (v : BrokerBook) (per : ℕ) → v ≡ node_at b.nodes (node s t x) → per ≡ v.site.per_ledger → per ≡ s.per_ledger
-  per_there v per is stored = stored ∙ ap (λ (h : Site). h.per_ledger) (ap (λ (u : BrokerBook). u.site) is ∙ (at.nodes.each t x topic cluster).site)
+  per_there : (v : BrokerView) (per : ℕ) → v ≡ node_at b.brokers (node s t x) → per ≡ v.site.per_ledger → per ≡ s.per_ledger
+  per_there v per is stored = stored ∙ ap (λ (h : Site). h.per_ledger) (ap (λ (u : BrokerView). u.site) is ∙ (at.brokers.each t x topic cluster).site)
 
-  pub tier_added : (keep moved per : ℕ) (name n : List ℕ) (v : BrokerBook) (es : List Entry) (ledgers : List ℕ) (old mid new whole : List ℕ) → n ≡ get_or s.clusters x n → v ≡ node_at b.nodes (node s t x)
+  pub tier_added : (keep moved per : ℕ) (name n : List ℕ) (v : BrokerView) (es : List Entry) (ledgers : List ℕ) (old mid new whole : List ℕ) → n ≡ get_or s.clusters x n → v ≡ node_at b.brokers (node s t x)
       → es ≡ v.broker.entries → ledgers ≡ v.broker.ledgers → per ≡ v.site.per_ledger → moved ≡ moved_ledgers per keep ledgers
       → mid ≡ old ++ (moved_line name n moved ++ 10 ∷ [])
       → new ≡ mid ++ with_line_feeds (entry_lines s.clusters ledgers 0 es)
@@ -95,7 +95,7 @@ same_tiers s w keep t (n ∷ ns) =
     let rest : tiers_of s (unlinked w) keep (t + 1) ns ≡ tiers_of s w keep (t + 1) ns = same_tiers s w keep (t + 1) ns in
     cc (first, rest)
 
-pub shown_tiered : (keep : ℕ) (n : Script) (b : WorldBook) (bytes : List ℕ) → IsFinished n b → bytes ≡ tiered keep n.setup (shown_world b)
+pub shown_tiered : (keep : ℕ) (n : Script) (b : WorldView) (bytes : List ℕ) → IsFinished n b → bytes ≡ tiered keep n.setup (shown_world b)
     → bytes ≡ tiered keep n.setup (run n.setup n.steps)
 shown_tiered keep n b bytes f is =
     let w = run n.setup n.steps in

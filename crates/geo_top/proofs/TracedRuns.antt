@@ -9,19 +9,19 @@ use Rattle.script_text.specs.Canonical.{declarations_text}
 use Rattle.script_text.specs.Script.{Script}
 use Rattle.world.specs.declared.fault.RunFault.{RunFault}
 use Rattle.world.specs.Runs.{at_world}
-use Rattle.world.specs.World.{WorldBook, kept_of}
-use Rattle.world_kept.proofs.Keeping.{opening}
-use Rattle.world_kept.proofs.Reaching.{opening_reached}
-use Rattle.world_kept.specs.Kept.{Kept, opening_kept}
-use Rattle.world_kept.specs.Reached.{Reached}
-use Rattle.world_kept.specs.Standing.{Stands}
+use Rattle.world.specs.World.{WorldView, kept_of}
+use Rattle.kept_laws.proofs.Keeping.{opening}
+use Rattle.kept_laws.proofs.Reaching.{opening_reached}
+use Rattle.kept_laws.specs.Kept.{Kept, opening_kept}
+use Rattle.kept_laws.specs.Reached.{Reached}
+use Rattle.kept_laws.specs.Standing.{Stands}
 use Rattle.trace_runs.specs.Tracing.{item_lines}
 use Rattle.geo_top.specs.Traced.{traced_of}
 
 abbrev head_of : Script → List ℕ
 head_of n = declarations_text n.setup n.chance ++ (codes "trace" ++ 10 ∷ [])
 
--- the lines behind the line `trace` make the whole
+-- the lines after the line `trace` make the whole
 whole : (n : Script) → head_of n ++ item_lines n.setup (traced all_limits n.setup n.steps) ≡ traced_of n
 whole n =
     let lines = item_lines n.setup (traced all_limits n.setup n.steps) in
@@ -30,7 +30,7 @@ whole n =
 ok_of : (X : Type 0) (r : Result (Unit {0}) RunFault) (u : Unit {0}) → r ≡ Ok u → OnOk r X → X
 ok_of X r u is h = subst (λ (r : Result (Unit {0}) RunFault). OnOk r X) is h
 
-pub traced_run : (n : Script) (old : WorldBook) (es : List Step) (head text : List ℕ) (r : Result (Unit {0}) RunFault) (u : Unit {0}) → kept_of old ≡ opening_kept n.setup → es ≡ n.steps
+pub traced_run : (n : Script) (old : WorldView) (es : List Step) (head text : List ℕ) (r : Result (Unit {0}) RunFault) (u : Unit {0}) → kept_of old ≡ opening_kept n.setup → es ≡ n.steps
     → head ≡ head_of n
     → ((w : World) → Reached n.setup w → Stands n.setup (kept_of old) w → OnOk r (text ≡ head ++ item_lines n.setup (items_from all_limits n.setup (at_world w) es))) → r ≡ Ok u
     → text ≡ traced_of n

@@ -8,12 +8,12 @@ use Rattle.geo_base.specs.Report.{with_line_feeds}
 use Rattle.geo_base.specs.Run.{run}
 use Rattle.geo_base.specs.Setup.{Setup}
 use Rattle.geo_base.specs.World.{World, node, topic_at}
-use Rattle.broker.specs.Node.{BrokerBook}
+use Rattle.broker.specs.Node.{BrokerView}
 use Rattle.report_lines.proofs.Added.{line_added}
 use Rattle.report_lines.proofs.Parts.{lines_added}
 use Rattle.report_lines.specs.Views.{horizon_line, view_lines, view_messages}
 use Rattle.script_text.specs.Script.{Script}
-use Rattle.world.specs.World.{IsAt, WorldBook, node_at}
+use Rattle.world.specs.World.{IsAt, WorldView, node_at}
 use Rattle.geo_top.specs.Compacted.{compacted, views_at, views_of}
 use Rattle.geo_top.specs.declared.top.command.Shown.{Shown}
 use Rattle.geo_top.specs.Finished.{IsFinished}
@@ -50,8 +50,8 @@ name_at xs i x within read = read ∙ same
     same : get_or xs i x ≡ slice_index_or xs i []
     same = cc (drop_more xs i x within, drop_more xs i [] within)
 
-pub view_added : (s : Setup) (b : WorldBook) (at : IsAt s b) (t x : ℕ) (topic : t < length s.topics) (cluster : x < length s.clusters)
-    → (horizon : ℕ) (name n : List ℕ) (v : BrokerBook) (es : List Entry) (ledgers : List ℕ) (old mid new whole : List ℕ) → n ≡ get_or s.clusters x n → v ≡ node_at b.nodes (node s t x)
+pub view_added : (s : Setup) (b : WorldView) (at : IsAt s b) (t x : ℕ) (topic : t < length s.topics) (cluster : x < length s.clusters)
+    → (horizon : ℕ) (name n : List ℕ) (v : BrokerView) (es : List Entry) (ledgers : List ℕ) (old mid new whole : List ℕ) → n ≡ get_or s.clusters x n → v ≡ node_at b.brokers (node s t x)
     → es ≡ v.broker.entries → ledgers ≡ v.broker.ledgers
     → mid ≡ old ++ (horizon_line name n (min horizon (length es)) ++ 10 ∷ [])
     → new ≡ mid ++ with_line_feeds (view_messages s.clusters horizon ledgers es)
@@ -59,7 +59,7 @@ pub view_added : (s : Setup) (b : WorldBook) (at : IsAt s b) (t x : ℕ) (topic 
     → new ++ with_line_feeds (views_at s (shown_world b) horizon t name (x + 1) (drop (x + 1) s.clusters)) ≡ whole
 view_added s b at t x topic cluster horizon name n v es ledgers old mid new whole read is entries ledgers_are first then_view before =
     let rest = views_at s (shown_world b) horizon t name (x + 1) (drop (x + 1) s.clusters) in
-    let there : v.broker ≡ topic_at s (shown_world b) t x = ap (λ (u : BrokerBook). u.broker) is ∙ broker_there s b at t x topic cluster in
+    let there : v.broker ≡ topic_at s (shown_world b) t x = ap (λ (u : BrokerView). u.broker) is ∙ broker_there s b at t x topic cluster in
     let shown = view_messages s.clusters horizon ledgers es in
     let same : view_lines s.clusters name n horizon (topic_at s (shown_world b) t x).ledgers (topic_at s (shown_world b) t x).entries ≡ horizon_line name n (min horizon (length es)) ∷ shown =
     view_there s.clusters name n horizon v.broker (topic_at s (shown_world b) t x) ledgers es there ledgers_are entries in
@@ -90,7 +90,7 @@ same_views s w horizon t (n ∷ ns) =
     let rest : views_of s (unlinked w) horizon (t + 1) ns ≡ views_of s w horizon (t + 1) ns = same_views s w horizon (t + 1) ns in
     cc (first, rest)
 
-pub shown_compacted : (horizon : ℕ) (n : Script) (b : WorldBook) (bytes : List ℕ) → IsFinished n b → bytes ≡ compacted horizon n.setup (shown_world b)
+pub shown_compacted : (horizon : ℕ) (n : Script) (b : WorldView) (bytes : List ℕ) → IsFinished n b → bytes ≡ compacted horizon n.setup (shown_world b)
     → bytes ≡ compacted horizon n.setup (run n.setup n.steps)
 shown_compacted horizon n b bytes f is =
     let w = run n.setup n.steps in

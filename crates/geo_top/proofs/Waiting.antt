@@ -203,9 +203,9 @@ copies_none f (suc n) x none = let h = copies_none f n x none in omega (arith, n
 few_opening : (s : Setup) → IsFew (opening_world s)
 few_opening s =
     let k = length s.clusters in
-    let nodes = length s.topics * k in
-    let brokers = copies_none held nodes (new_broker k (length s.clients)) refl in
-    let links = copies_none in_row nodes (replicate k no_link) (copies_none on_link k no_link refl) in omega (arith, brokers, links)
+    let brokers = length s.topics * k in
+    let at_brokers = copies_none held brokers (new_broker k (length s.clients)) refl in
+    let links = copies_none in_row brokers (replicate k no_link) (copies_none on_link k no_link refl) in omega (arith, at_brokers, links)
 
 pub few_kept : (s : Setup) → IsKept s IsFew
 few_kept s = record {

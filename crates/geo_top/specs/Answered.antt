@@ -5,14 +5,14 @@ use Rattle.audit.specs.AuditOf.{audit_of}
 use Rattle.geo_base.specs.declared.event.Step.{Step}
 use Rattle.geo_base.specs.Run.{all_limits, is_quiet, run, run_under}
 use Rattle.geo_io.specs.Faults.{Rose, Stood}
-use Rattle.script_inputs.specs.Generated.{generated_run}
+use Rattle.script_generator.specs.Generated.{generated_run}
 use Rattle.script_text.specs.Rules.{script_of}
 use Rattle.script_text.specs.Scenario.{IsScenario}
 use Rattle.script_text.specs.Schedule.{schedule_of}
 use Rattle.script_text.specs.Script.{Script}
 use Rattle.state_file.specs.Loading.{IsLoaded, bad_state, version}
 use Rattle.state_file.specs.State.{SavedState}
-use Rattle.script_inputs.specs.Starts.{declarations_in, trace_in}
+use Rattle.script_generator.specs.Starts.{declarations_in, trace_in}
 use Rattle.geo_top.specs.declared.top.answer.Answer.{Answer}
 use Rattle.geo_top.specs.declared.top.command.Command.{Command}
 use Rattle.geo_top.specs.declared.top.command.Command.TheVariants as command
@@ -21,7 +21,7 @@ use Rattle.geo_top.specs.declared.top.command.Shown.TheVariants as shown
 use Rattle.geo_top.specs.declared.top.status.Status.{Status}
 use Rattle.geo_top.specs.declared.top.status.Status.TheVariants as status
 use Rattle.geo_top.specs.Audits.{IsAuditedSafe, audit_line}
-use Rattle.geo_top.specs.Causes.{HasBadLine, HasBadState, HasRefusedLine, IsPassed}
+use Rattle.geo_top.specs.Causes.{HasBadLine, HasBadState, HasRefusedLine, IsExceeded}
 use Rattle.geo_top.specs.Claims.{HoldsOf, HoldsWithin}
 use Rattle.geo_top.specs.Commands.{Reads, audit_command, command_showing, resume_command, run_command, save_command, steps_command, steps_on_command}
 use Rattle.geo_top.specs.OneRun.{GoesOnAlike, IsKept, IsSavedWith, counted_on, lines_before, text_on}
@@ -73,7 +73,7 @@ HasCause c input f status.Usage = c ≡ None
 HasCause c input f (status.BadScript line rule) = HasBadLine c input (record { line = line; rule = rule })
 HasCause c input f status.ReadFault = Reads c × Rose f.source f.source_now
 HasCause c input f status.WriteFault = Rose f.sink f.sink_now
-HasCause c input f (status.TooLarge limit) = IsPassed c input limit
+HasCause c input f (status.TooLarge limit) = IsExceeded c input limit
 HasCause c input f status.OutOfMemory = Stood f.source f.source_now × Stood f.sink f.sink_now
 HasCause c input f (status.BadState offset rule) = HasBadState c input (bad_state offset rule)
 HasCause c input f (status.StateVersion number) = HasBadState c input (version number)
@@ -84,7 +84,7 @@ HasCause c input f (status.AuditRefused event rule) = HasRefusedLine c input (re
 abbrev pub OfScript : Option Command → List ℕ → Status → (Shown → Script → Type 0) → Type 0
 OfScript c input s Holds = (v : Shown) → s ≡ status.Ok → c ≡ Some (command_showing v) → IsOkAnd (script_of input) (Holds v)
 
--- of the script that was saved and the steps behind it, for `resume`
+-- of the script that was saved and the steps after it, for `resume`
 abbrev pub OfSaved : Option Command → List ℕ → Status → (Script → List Step → Type 0) → Type 0
 OfSaved c input s Holds =
     (n : Script) (lines : List ℕ) → s ≡ status.Ok → c ≡ Some resume_command → IsSavedWith n lines input → IsOkAnd (schedule_of n.setup lines) (Holds n)
@@ -94,20 +94,20 @@ pub record IsAnswered (c : Option Command) (input output : List ℕ) (f : FaultC
   -- its report, the compacted views of its topics, its topics with closed ledgers in a tier, its events. The run passes no limit, and
   -- all that is claimed of a run holds of it.
   pub shows : OfScript c input s (λ v n. (output ≡ output_of v n) × HoldsWithin n)
-  -- `save` writes the state file of that run with a stop of everything behind it, and so it is of this run;
+  -- `save` writes the state file of that run with a stop of everything after it, and so it is of this run;
   pub saved : s ≡ status.Ok → c ≡ Some save_command → IsOkAnd (script_of input) (λ n. IsKept n × (output ≡ file_of n) × HoldsOf (stopped n))
-  -- `resume` the report of the run that goes on from the state that the input begins with, over the schedule behind its bytes, and that
+  -- `resume` the report of the run that goes on from the state that the input begins with, over the schedule after its bytes, and that
   -- run passes no limit;
   pub resumed : s ≡ status.Ok → c ≡ Some resume_command → (g : SavedState) × (used : ℕ) × IsLoaded input (Ok (g, used))
       × IsOkAnd (schedule_of g.scenario.setup (drop used input)) (λ es. (output ≡ resumed_report g es) × (resumed_limit g es ≡ None))
   -- and where that state is what `save` wrote of a script, it is the report of one run, that of the script with a stop of everything
-  -- and the schedule behind its steps, with all that is claimed of it; the run that goes on comes to the same worlds;
+  -- and the schedule after its steps, with all that is claimed of it; the run that goes on comes to the same worlds;
   pub one_run : OfSaved c input s (λ n es. (output ≡ report_of (gone_on n es)) × HoldsWithin (gone_on n es) × GoesOnAlike n es)
-  -- so what `resume` answers to such a file with lines behind it is what `run` answers to the script's text with a stop and these
-  -- lines behind it (where that is not too long to be read), refusals too, but for the number of the line that is refused.
+  -- so what `resume` answers to such a file with lines after it is what `run` answers to the script's text with a stop and these
+  -- lines after it (where that is not too long to be read), refusals too, but for the number of the line that is refused.
   pub one_answer : (text lines : List ℕ) (n : Script) → IsMade s → c ≡ Some resume_command → script_of (text ++ 10 ∷ []) ≡ Ok n → IsSavedWith n lines input
       → counted_on (lines_before text) (record { status = s; bytes = output }) s ≡ answer_to shown.Report (script_of (text_on text lines))
-  -- `audit` tells how many events the trace tells that stands behind the declarations: no line of it breaks a rule, and behind each of
+  -- `audit` tells how many events the trace tells that stands after the declarations: no line of it breaks a rule, and after each of
   -- them what the lines so far make of the topics and the subscriptions is safe, with each message once, per producer in order;
   pub audited : s ≡ status.Ok → c ≡ Some audit_command
       → IsOkAnd (script_of (declarations_in input)) (λ n. (events : ℕ) × (audit_of n.setup (trace_in input) ≡ Ok events) × (output ≡ audit_line events))
@@ -119,7 +119,7 @@ pub record IsAnswered (c : Option Command) (input output : List ℕ) (f : FaultC
   -- `steps` writes each step of that run, as the line that says it, with what it changed of what a report shows, between the report of
   -- where the run begins and the counts where it ends; there is such a line for each step;
   pub stepped : s ≡ status.Ok → c ≡ Some steps_command → IsOkAnd (script_of input) (λ n. (output ≡ steps_of input n) × HoldsWithin n × AreAllSaid input n)
-  -- `steps from` the same of the run that goes on from the state that the input begins with, by the lines of the schedule behind its bytes;
+  -- `steps from` the same of the run that goes on from the state that the input begins with, by the lines of the schedule after its bytes;
   pub stepped_on : s ≡ status.Ok → c ≡ Some steps_on_command → (g : SavedState) × (used : ℕ) × IsLoaded input (Ok (g, used))
       × IsOkAnd (schedule_of g.scenario.setup (drop used input)) (λ es. (output ≡ steps_on g (drop used input) es) × (resumed_limit g es ≡ None) × AreAllSaidOn (drop used input) es)
   -- and `steps big` of the run that a number generates, by its schedule as it is written.
@@ -147,7 +147,7 @@ abbrev pub IsCut : List ℕ → ℕ → ℕ → Status → Type 0
 IsCut part before now s = (67108864 < length part) ⊎ (Rose before now ⊎ (s ≡ status.OutOfMemory))
 
 -- What a call read of a source for words that have an input, by what its calls gave, by what it told that it had left, and by its count
--- of faults before and now: the input is what the source gave, and where that is cut, some more behind it; an answer is to all that it
+-- of faults before and now: the input is what the source gave, and where that is cut, some more after it; an answer is to all that it
 -- gave, unless it says that this is too long; and where the source tells what it has left, it is that. For other words nothing is read,
 -- and the input is empty.
 pub record IsRead (c : Option Command) (given : List ℕ → Type 0) (left : Option (List ℕ)) (before now : ℕ) (s : Status) (input : List ℕ) : Type 0 where

@@ -13,7 +13,7 @@ use Rattle.script_rows.specs.NameWords.{cut_by}
 abbrev pub audit_line : ℕ → List ℕ
 audit_line events = codes "audit ok events " ++ (decimal events ++ 10 ∷ [])
 
--- The bytes are the line `trace` and lines of which each has a reading, and behind each of these what the lines so far make of the
+-- The bytes are the line `trace` and lines of which each has a reading, and after each of these what the lines so far make of the
 -- topics and the subscriptions is safe: whatever a subscription has acknowledged is settled by these lines, and messages stand once,
 -- per producer in order
 pub record IsAuditedSafe (s : Setup) (bytes : List ℕ) : Type 0 where

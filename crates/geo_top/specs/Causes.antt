@@ -8,7 +8,7 @@ use Rattle.script_text.specs.Schedule.{schedule_of}
 use Rattle.script_text.specs.Script.{Fault}
 use Rattle.state_file.specs.Loading.{IsLoaded, Refusal}
 use Rattle.state_file.specs.State.{SavedState}
-use Rattle.script_inputs.specs.Starts.{declarations_in, trace_in}
+use Rattle.script_generator.specs.Starts.{declarations_in, trace_in}
 use Rattle.geo_top.specs.declared.top.command.Command.{Command}
 use Rattle.geo_top.specs.declared.top.command.Command.TheVariants as command
 use Rattle.geo_top.specs.declared.top.command.GoingOn.{GoingOn}
@@ -16,11 +16,11 @@ use Rattle.geo_top.specs.declared.top.command.Reading.{Reading}
 use Rattle.geo_top.specs.declared.top.command.Reading.TheVariants as reading
 use Rattle.geo_top.specs.Commands.{Reads, auditing_command, command_resuming, lost_on_command}
 use Rattle.geo_top.specs.Losing.{declaring}
-use Rattle.geo_top.specs.Outputs.{passed_limit, resumed_limit, steps_declaring}
+use Rattle.geo_top.specs.Outputs.{exceeded_limit, resumed_limit, steps_declaring}
 use Rattle.geo_top.specs.States.{stopped}
-use Rattle.script_inputs.specs.Generated.{generated_run}
+use Rattle.script_generator.specs.Generated.{generated_run}
 
--- a line breaks a rule: of the script, or behind the state
+-- a line breaks a rule: of the script, or after the state
 abbrev pub HasBadLineIn : Reading → List ℕ → Fault → Type 0
 HasBadLineIn (reading.Script v) input f = script_of input ≡ Err f
 HasBadLineIn reading.Save input f = script_of input ≡ Err f
@@ -39,26 +39,26 @@ HasBadLine (Some (command.Big number)) input f = ⊥
 HasBadLine (Some (command.BigSteps number)) input f = ⊥
 
 -- A limit that a command passes: 1, more bytes than are read; 2, more events than are done; 3, more bytes of frames than are sent.
-abbrev pub RunPasses : Reading → List ℕ → ℕ → Type 0
-RunPasses (reading.Script v) input limit = IsOkAnd (script_of input) (λ n. passed_limit n ≡ Some limit)
-RunPasses reading.Save input limit = IsOkAnd (script_of input) (λ n. passed_limit (stopped n) ≡ Some limit)
-RunPasses (reading.Resume v) input limit = (s : SavedState) × (used : ℕ) × IsLoaded input (Ok (s, used))
+abbrev pub RunExceeds : Reading → List ℕ → ℕ → Type 0
+RunExceeds (reading.Script v) input limit = IsOkAnd (script_of input) (λ n. exceeded_limit n ≡ Some limit)
+RunExceeds reading.Save input limit = IsOkAnd (script_of input) (λ n. exceeded_limit (stopped n) ≡ Some limit)
+RunExceeds (reading.Resume v) input limit = (s : SavedState) × (used : ℕ) × IsLoaded input (Ok (s, used))
     × IsOkAnd (schedule_of s.scenario.setup (drop used input)) (λ es. resumed_limit s es ≡ Some limit)
-RunPasses (reading.Audit k) input limit = ⊥
-RunPasses reading.Steps input limit = IsOkAnd (script_of input) (λ n. passed_limit n ≡ Some limit)
-RunPasses (reading.Lost name names) input limit = IsOkAnd (declaring name input (script_of input)) (λ n. passed_limit n ≡ Some limit)
-RunPasses (reading.LostOn name) input limit = (s : SavedState) × (used : ℕ) × IsLoaded input (Ok (s, used))
+RunExceeds (reading.Audit k) input limit = ⊥
+RunExceeds reading.Steps input limit = IsOkAnd (script_of input) (λ n. exceeded_limit n ≡ Some limit)
+RunExceeds (reading.Lost name names) input limit = IsOkAnd (declaring name input (script_of input)) (λ n. exceeded_limit n ≡ Some limit)
+RunExceeds (reading.LostOn name) input limit = (s : SavedState) × (used : ℕ) × IsLoaded input (Ok (s, used))
     × IsOkAnd (steps_declaring name input s used) (λ es. resumed_limit s es ≡ Some limit)
 
-abbrev pub PassesRunning : Option Command → List ℕ → ℕ → Type 0
-PassesRunning None input limit = ⊥
-PassesRunning (Some (command.Reads r)) input limit = RunPasses r input limit
-PassesRunning (Some (command.Big number)) input limit = passed_limit (generated_run number) ≡ Some limit
-PassesRunning (Some (command.BigSteps number)) input limit = passed_limit (generated_run number) ≡ Some limit
+abbrev pub ExceedsRunning : Option Command → List ℕ → ℕ → Type 0
+ExceedsRunning None input limit = ⊥
+ExceedsRunning (Some (command.Reads r)) input limit = RunExceeds r input limit
+ExceedsRunning (Some (command.Big number)) input limit = exceeded_limit (generated_run number) ≡ Some limit
+ExceedsRunning (Some (command.BigSteps number)) input limit = exceeded_limit (generated_run number) ≡ Some limit
 
-abbrev pub IsPassed : Option Command → List ℕ → ℕ → Type 0
-IsPassed c input limit =
-    (Reads c × (limit ≡ 1) × (67108864 < length input)) ⊎ (((limit ≡ 2) ⊎ (limit ≡ 3)) × PassesRunning c input limit)
+abbrev pub IsExceeded : Option Command → List ℕ → ℕ → Type 0
+IsExceeded c input limit =
+    (Reads c × (limit ≡ 1) × (67108864 < length input)) ⊎ (((limit ≡ 2) ⊎ (limit ≡ 3)) × ExceedsRunning c input limit)
 
 -- a state that is refused
 abbrev pub ReadsState : Option Command → Type 0
@@ -67,7 +67,7 @@ ReadsState c = ((v : GoingOn) × (c ≡ Some (command_resuming v))) ⊎ ((name :
 abbrev pub HasBadState : Option Command → List ℕ → Refusal → Type 0
 HasBadState c input r = ReadsState c × IsLoaded input (Err r)
 
--- a line of a trace that is refused, by how strictly it was to be judged: behind this event, by this rule
+-- a line of a trace that is refused, by how strictly it was to be judged: after this event, by this rule
 abbrev pub HasRefusedLine : Option Command → List ℕ → RefusedLine → Type 0
 HasRefusedLine c input r =
     (k : Strictness) × (c ≡ Some (auditing_command k)) × IsOkAnd (script_of (declarations_in input)) (λ n. audit_by k n.setup (trace_in input) ≡ Err r)

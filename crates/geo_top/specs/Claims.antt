@@ -19,7 +19,7 @@ use Rattle.consumer_laws.specs.Handed.{OnlyHanded, handing}
 use Rattle.consumer_laws.specs.InOrder.{FirstInOrder, GetsInOrder}
 use Rattle.failover_laws.specs.Moves.{AllActedOn, AllCovered, AllDrained, AllEnded, AllHandedOver, AllOffered, AllSwitchedOver, AlwaysRoom}
 use Rattle.geo_top.specs.Headline.{IsAlwaysInTime, IsAlwaysKept, IsAlwaysOnce, IsAlwaysSafe, IsAlwaysSettled, NothingComesAgain}
-use Rattle.geo_top.specs.Outputs.{passed_limit}
+use Rattle.geo_top.specs.Outputs.{exceeded_limit}
 
 -- where each sub line is earliest and none of the steps so far seeks, what a cursor has somebody's list of what it got has
 abbrev pub IsGotUnlessSkipped : Script → Type 0
@@ -55,14 +55,14 @@ pub record HoldsOf (n : Script) : Type 0 where
   pub prefix : AlwaysIn n.setup n.steps (λ w settled. IsPrefix n.setup w)
   -- What stands at a cluster, or was ever sent to it by another one, is meant for it.
   pub resident : AlwaysIn n.setup n.steps (λ w settled. IsResident n.setup w)
-  -- What a sender counts as over there stands there; what the other cluster lacks is the last of it, and no more than stands here after
+  -- What a replicator counts as over there stands there; what the other cluster lacks is the last of it, and no more than stands here after
   -- the mark.
   pub marked : AlwaysIn n.setup n.steps (λ w settled. IsReceived n.setup w × IsMarked n.setup w)
   -- Whatever a subscription has acknowledged is settled, so that every message stored anywhere is settled on each subscription there or
   -- stands in its backlog.
   pub safe : IsAlwaysSafe n
   -- Whatever a cursor has passed some consumer of its subscription was given, at whatever cluster, or it was passed over openly: created
-  -- at Latest behind it, or sought past. Between events, where nothing is passed over so, somebody's list of what it got has it.
+  -- at Latest after it, or sought past. Between events, where nothing is passed over so, somebody's list of what it got has it.
   pub handed : AlwaysToldIn (handing n.setup) n.setup n.steps (λ w handed. OnlyHanded n.setup w handed)
   pub got : IsGotUnlessSkipped n
   -- Between events, where one consumer is served at a time, the next message that it takes comes after all that stand before it there,
@@ -70,14 +70,14 @@ pub record HoldsOf (n : Script) : Type 0 where
   pub in_order : BetweenToldIn (handing n.setup) n.setup n.steps (λ w handed. GetsInOrder n.setup w handed × FirstInOrder n.setup w handed)
   -- Between events nothing that stands in a backlog is forgotten.
   pub kept : IsAlwaysKept n
-  -- After each step that settles all has come over: for every topic and every two clusters, the sender of the one to the other is open
+  -- After each step that settles all has come over: for every topic and every two clusters, the replicator of the one to the other is open
   -- and has acknowledged all of its topic, and the other has, in order, all that the one stored first for it;
   pub settled : IsAlwaysSettled n
   -- within the budget of its rounds, each of which but the last does an event.
   pub rounds : IsAlwaysInTime n
   -- After a step that acts on an update of another cluster nothing comes again that the update let its subscription pass over, until
   -- that is deleted or sought: no event gives it, and no client gets it that connects since; and of the other cluster's own messages
-  -- such alone come as it stored behind the request of the update's snapshot.
+  -- such alone come as it stored after the request of the update's snapshot.
   pub again : NothingComesAgain n
   -- A subscription that is sought, or deleted, at every cluster after a step that settles begins anew.
   pub anew : BeginsAnew n
@@ -89,7 +89,7 @@ pub record HoldsOf (n : Script) : Type 0 where
   -- A snapshot reaches, at each other cluster, over all that stood there when it was asked for, whoever stored it first: so what comes
   -- again was stored there after the request of the snapshot whose update was acted on last.
   pub covers : AllCovered n.setup n.steps
-  -- No sender acknowledges an update that it did not act on.
+  -- No replicator acknowledges an update that it did not act on.
   pub acts : AllActedOn n.setup n.steps
   -- After each step that settles no snapshot is in the making, and one that is asked for then stands after the next.
   pub ended : AllEnded n.setup n.steps
@@ -104,4 +104,4 @@ pub record HoldsOf (n : Script) : Type 0 where
 
 -- a run that passes no limit, and all that is claimed of it
 abbrev pub HoldsWithin : Script → Type 0
-HoldsWithin n = (passed_limit n ≡ None) × HoldsOf n
+HoldsWithin n = (exceeded_limit n ≡ None) × HoldsOf n

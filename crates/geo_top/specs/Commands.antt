@@ -1,5 +1,5 @@
 -- The commands of the program, by its words: `run`, `save`, `resume`, `audit`, `audit whole`, `trace`, `steps`, `steps from`,
--- `steps big NUMBER`, `big NUMBER`, `compact HORIZON`, `tiered KEEP`, and `lost CLUSTER`, alone or with `numbers` or `from` behind it.
+-- `steps big NUMBER`, `big NUMBER`, `compact HORIZON`, `tiered KEEP`, and `lost CLUSTER`, alone or with `numbers` or `from` after it.
 -- Any other words are none (own).
 use Rattle.std.specs.Prelude.{◌≡◌, ℕ, Bool, true, false, ◌&&◌, if◌then◌else◌, List, [], ◌∷◌, Option, Some, None, codes}
 use Rattle.std.specs.Str.{bytes_eq}
@@ -56,7 +56,7 @@ audit_command = auditing_command strictness.Plain
 abbrev pub whole_command : Command
 whole_command = auditing_command strictness.Whole
 
--- the word behind `audit`
+-- the word after `audit`
 abbrev pub audit_of_word : List ℕ → Option Command
 audit_of_word w = if bytes_eq w (codes "whole") then Some whole_command else None
 
@@ -103,7 +103,7 @@ lost_command name names = command.Reads (reading.Lost name names)
 abbrev pub lost_on_command : List ℕ → Command
 lost_on_command name = command.Reads (reading.LostOn name)
 
--- the word behind `lost CLUSTER`
+-- the word after `lost CLUSTER`
 abbrev pub lost_with : List ℕ → List ℕ → Option Command
 lost_with name w =
     if bytes_eq w (codes "numbers") then Some (lost_command name false)

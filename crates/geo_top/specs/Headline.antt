@@ -1,4 +1,4 @@
--- The headline: what is claimed of the messages of a script, at every moment of its run, behind each step that settles, and behind a
+-- The headline: what is claimed of the messages of a script, at every moment of its run, after each step that settles, and after a
 -- failover.
 use Rattle.std.specs.Prelude.{◌≡◌, ◌⊎◌, ℕ, ◌+◌, ◌<◌, ◌≤◌, true, false, List, [], ◌∷◌, ◌++◌, length, take}
 use Rattle.geo_base.specs.declared.entry.Entry.{Entry}
@@ -27,7 +27,7 @@ abbrev pub IsInBacklog : Subscription → ℕ → Type 0
 IsInBacklog v i = has v.cursor i ≡ false
 
 -- Every message that is stored anywhere is settled on each subscription there, or stands in its backlog: it was acknowledged by a
--- client somewhere, the subscription was created at Latest behind it or sought past it, or it is still to be consumed.
+-- client somewhere, the subscription was created at Latest after it or sought past it, or it is still to be consumed.
 abbrev pub NothingIsLost : Setup → World → SettledSoFar → Type 0
 NothingIsLost s w settled = (t x i : ℕ) (v : Subscription) (e : Entry) → x < length s.clusters
     → IsSub (topic_at s w t x) v → IsEntry (topic_at s w t x) i e → is_data e.content ≡ true
@@ -44,20 +44,20 @@ IsAlwaysSafe n = AlwaysIn n.setup n.steps (λ w settled. IsSafe n.setup w settle
 
 -- Between any two of its events, also inside settling, nothing that is due on a subscription is forgotten: what stands in its backlog
 -- is out with a consumer that is attached, due again or still to be read, and what is acknowledged is neither out nor due again. (In
--- the midst of an event it need not be so, since memory changes behind the durable writes.)
+-- the midst of an event it need not be so, since memory changes after the durable writes.)
 abbrev pub IsAlwaysKept : Script → Type 0
 IsAlwaysKept n = (k : ℕ) (at : Settling) → NothingForgotten (world_between no_limits n.setup (take k n.steps) at)
 
--- all has come over: for every topic and every two clusters, the sender of the one to the other is open and has acknowledged every
+-- all has come over: for every topic and every two clusters, the replicator of the one to the other is open and has acknowledged every
 -- index of its topic, and the other has, in order, all that the one stored first and has for it
 abbrev pub AllCameOver : Setup → World → Type 0
 AllCameOver s w = (t x y : ℕ) → t < length s.topics → ArePair s x y → IsComplete s w t x y
 
--- so it is behind each step of a script that settles
+-- so it is after each step of a script that settles
 abbrev pub IsAlwaysSettled : Script → Type 0
 IsAlwaysSettled n = (es fs : List Step) → n.steps ≡ es ++ step.Settle ∷ fs → AllCameOver n.setup (run n.setup (es ++ step.Settle ∷ []))
 
--- Settling behind some steps ends in a world where no event of a round does anything, and by then its rounds are no more than the budget;
+-- Settling after some steps ends in a world where no event of a round does anything, and by then its rounds are no more than the budget;
 -- each of them before that does an event that is not idle.
 pub record SettlesInRounds (s : Setup) (es : List Step) : Type 0 where
   pub quiet : is_quiet s (run s (es ++ step.Settle ∷ [])) ≡ true

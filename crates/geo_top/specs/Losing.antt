@@ -8,7 +8,7 @@ use Rattle.geo_base.specs.Run.{run}
 use Rattle.geo_base.specs.Setup.{Setup}
 use Rattle.geo_base.specs.Subscription.{Subscription}
 use Rattle.geo_base.specs.World.{World}
-use Rattle.failover_laws.specs.PassedOver.{MayPass}
+use Rattle.failover_laws.specs.UpdatedTo.{MayUpdateTo}
 use Rattle.failover_laws.specs.Since.{Since}
 use Rattle.loss_laws.specs.LossLaws.{AgainBehind, MissingIsEnd, NamesLost}
 use Rattle.loss_laws.specs.LostLines.{lost_text}
@@ -26,7 +26,7 @@ Declares s name = is_among s.clusters name ≡ true
 abbrev pub cluster_number : Setup → List ℕ → ℕ
 cluster_number s name = number_in s.clusters name
 
--- a name that is not declared is refused by the rule on names that are not, as one of an event, and stands behind the last line
+-- a name that is not declared is refused by the rule on names that are not, as one of an event, and stands after the last line
 abbrev pub undeclared : List ℕ → Fault
 undeclared lines = record { line = length (lines_of lines) + 1; rule = 15 }
 
@@ -39,12 +39,12 @@ abbrev pub declaring : List ℕ → List ℕ → Result Script Fault → Result 
 declaring name input (Ok n) = if_declared n.setup name input n
 declaring name input (Err f) = Err f
 
--- steps behind a state that declares it
+-- steps after a state that declares it
 abbrev pub declaring_on : Setup → List ℕ → List ℕ → Result (List Step) Fault → Result (List Step) Fault
 declaring_on s name lines (Ok es) = if_declared s name lines es
 declaring_on s name lines (Err f) = Err f
 
--- lines as they are counted: those that a line feed ends, one more by a byte that is one, and whether there is one more behind the last
+-- lines as they are counted: those that a line feed ends, one more by a byte that is one, and whether there is one more after the last
 abbrev pub with_end : ℕ → ℕ → ℕ
 with_end ended byte = if byte == 10 then ended + 1 else ended
 
@@ -63,9 +63,9 @@ lost_on name f es = lost_text true f.scenario.setup (resumed f es) (cluster_numb
 pub record LossHolds (s : Setup) (w : World) : Type 0 where
   -- What x has for y is as much of it as stands at y, and a rest; of this rest the messages are missing at y, in order.
   pub missing : MissingIsEnd s w
-  -- Behind an event that acts on an update of x for a subscription, which names index j at y, those of x's messages that would come
-  -- again to it there stand behind j, until it is deleted or sought there.
-  pub again : (u : World) (t x y j : ℕ) (v : Subscription) (remote : List ClusterPosition) → MayPass s u t y x v.name remote j
+  -- After an event that acts on an update of x for a subscription, which names index j at y, those of x's messages that would come
+  -- again to it there stand after j, until it is deleted or sought there.
+  pub again : (u : World) (t x y j : ℕ) (v : Subscription) (remote : List ClusterPosition) → MayUpdateTo s u t y x v.name remote j
       → Since s t y v.name (happens s u (event.Read t y x)) w → AgainBehind s w t x y v j
   -- What is lost stands at no other cluster, and each message of x that is named as lost, alone or differing nowhere stands at each one
   -- that it is meant for.

@@ -12,7 +12,7 @@ use Rattle.script_text.specs.Schedule.{schedule_of}
 use Rattle.script_text.specs.Script.{Fault, Script}
 use Rattle.state_file.specs.Loading.{IsLoaded, Loaded, bad_state, version}
 use Rattle.state_file.specs.State.{SavedState}
-use Rattle.script_inputs.specs.Starts.{declarations_in, trace_in}
+use Rattle.script_generator.specs.Starts.{declarations_in, trace_in}
 use Rattle.geo_top.specs.declared.top.answer.Answer.{Answer}
 use Rattle.geo_top.specs.declared.top.command.Command.{Command}
 use Rattle.geo_top.specs.declared.top.command.Command.TheVariants as command
@@ -33,15 +33,15 @@ use Rattle.geo_top.specs.Stepped.{steps_by_schedule, steps_of, steps_on}
 use Rattle.geo_top.specs.Summary.{summary}
 use Rattle.geo_top.specs.Tiered.{tiered}
 use Rattle.geo_top.specs.Traced.{traced_of}
-use Rattle.script_inputs.specs.Generated.{generated_run}
+use Rattle.script_generator.specs.Generated.{generated_run}
 
 abbrev pub refused : Status → Answer
 refused s = record { status = s; bytes = refusal_line s }
 
 -- an output, unless a limit is passed
-abbrev pub unless_passed : List ℕ → Option ℕ → Answer
-unless_passed bytes None = record { status = status.Ok; bytes = bytes }
-unless_passed bytes (Some limit) = refused (status.TooLarge limit)
+abbrev pub unless_exceeded : List ℕ → Option ℕ → Answer
+unless_exceeded bytes None = record { status = status.Ok; bytes = bytes }
+unless_exceeded bytes (Some limit) = refused (status.TooLarge limit)
 
 -- ---- to a script that is run
 -- the bytes of the report of a script's run
@@ -65,20 +65,20 @@ output_of shown.Trace n = traced_of n
 
 -- the number of the limit that a script's run passes: 2, where events and idle events together would be more than 2,000,000; 3,
 -- where the bytes of all frames would be more than 1 GiB
-abbrev pub passed_limit : Script → Option ℕ
-passed_limit n = (run_under all_limits n.setup n.steps).ended
+abbrev pub exceeded_limit : Script → Option ℕ
+exceeded_limit n = (run_under all_limits n.setup n.steps).ended
 
 -- to a script, whose run passes a limit or none
 abbrev pub answer_to_run : Shown → Script → Option ℕ → Answer
-answer_to_run v n o = unless_passed (output_of v n) o
+answer_to_run v n o = unless_exceeded (output_of v n) o
 
 abbrev pub answer_to : Shown → Result Script Fault → Answer
-answer_to v (Ok n) = answer_to_run v n (passed_limit n)
+answer_to v (Ok n) = answer_to_run v n (exceeded_limit n)
 answer_to v (Err f) = refused (status.BadScript f.line f.rule)
 
--- ---- to a script whose run is saved: the stop behind it may pass a limit too
+-- ---- to a script whose run is saved: the stop after it may pass a limit too
 abbrev pub answer_to_saved : Script → Answer
-answer_to_saved n = unless_passed (file_of n) (passed_limit (stopped n))
+answer_to_saved n = unless_exceeded (file_of n) (exceeded_limit (stopped n))
 
 abbrev pub answer_to_save : Result Script Fault → Answer
 answer_to_save (Ok n) = answer_to_saved n
@@ -86,10 +86,10 @@ answer_to_save (Err f) = refused (status.BadScript f.line f.rule)
 
 -- ---- to a script whose steps are told, each with the line of the text that says it
 abbrev pub answer_to_steps : List ℕ → Result Script Fault → Answer
-answer_to_steps text (Ok n) = unless_passed (steps_of text n) (passed_limit n)
+answer_to_steps text (Ok n) = unless_exceeded (steps_of text n) (exceeded_limit n)
 answer_to_steps text (Err f) = refused (status.BadScript f.line f.rule)
 
--- ---- to a state with a schedule behind it, from which a run goes on
+-- ---- to a state with a schedule after it, from which a run goes on
 -- the bytes of its report
 abbrev pub resumed_report : SavedState → List Step → List ℕ
 resumed_report f es = report f.scenario.setup (resumed f es)
@@ -99,19 +99,19 @@ abbrev pub resumed_limit : SavedState → List Step → Option ℕ
 resumed_limit f es = (resumed_under all_limits f es).ended
 
 abbrev pub answer_to_resumed : SavedState → Result (List Step) Fault → Answer
-answer_to_resumed f (Ok es) = unless_passed (resumed_report f es) (resumed_limit f es)
+answer_to_resumed f (Ok es) = unless_exceeded (resumed_report f es) (resumed_limit f es)
 answer_to_resumed f (Err e) = refused (status.BadScript e.line e.rule)
 
 -- its steps, each with the line that says it
 abbrev pub answer_to_steps_on : SavedState → List ℕ → Result (List Step) Fault → Answer
-answer_to_steps_on f lines (Ok es) = unless_passed (steps_on f lines es) (resumed_limit f es)
+answer_to_steps_on f lines (Ok es) = unless_exceeded (steps_on f lines es) (resumed_limit f es)
 answer_to_steps_on f lines (Err e) = refused (status.BadScript e.line e.rule)
 
 abbrev pub answer_going_on : GoingOn → SavedState → List ℕ → Answer
 answer_going_on going_on.Report f lines = answer_to_resumed f (schedule_of f.scenario.setup lines)
 answer_going_on going_on.Steps f lines = answer_to_steps_on f lines (schedule_of f.scenario.setup lines)
 
--- what stands behind the bytes of a state is its schedule
+-- what stands after the bytes of a state is its schedule
 abbrev pub answer_to_loaded : GoingOn → List ℕ → Loaded → Answer
 answer_to_loaded v input (Ok x) = answer_going_on v x.0 (drop x.1 input)
 answer_to_loaded v input (Err (bad_state offset rule)) = refused (status.BadState offset rule)
@@ -120,17 +120,17 @@ answer_to_loaded v input (Err (version number)) = refused (status.StateVersion n
 abbrev pub IsAnswerToFile : GoingOn → List ℕ → Answer → Type 0
 IsAnswerToFile v input a = (l : Loaded) × IsLoaded input l × (a ≡ answer_to_loaded v input l)
 
--- ---- to a script, or a state with a schedule behind it, of whose run it is told what is lost if a cluster goes. Rules of the lines come
+-- ---- to a script, or a state with a schedule after it, of whose run it is told what is lost if a cluster goes. Rules of the lines come
 -- ---- first, then that the cluster is declared, then the limits
 abbrev pub answer_to_losing : List ℕ → Bool → Result Script Fault → Answer
-answer_to_losing name names (Ok n) = unless_passed (lost_of name names n) (passed_limit n)
+answer_to_losing name names (Ok n) = unless_exceeded (lost_of name names n) (exceeded_limit n)
 answer_to_losing name names (Err f) = refused (status.BadScript f.line f.rule)
 
 abbrev pub answer_to_losing_on : List ℕ → SavedState → Result (List Step) Fault → Answer
-answer_to_losing_on name f (Ok es) = unless_passed (lost_on name f es) (resumed_limit f es)
+answer_to_losing_on name f (Ok es) = unless_exceeded (lost_on name f es) (resumed_limit f es)
 answer_to_losing_on name f (Err e) = refused (status.BadScript e.line e.rule)
 
--- the steps behind a state, of which the input has the bytes
+-- the steps after a state, of which the input has the bytes
 abbrev pub steps_declaring : List ℕ → List ℕ → SavedState → ℕ → Result (List Step) Fault
 steps_declaring name input f used = declaring_on f.scenario.setup name (drop used input) (schedule_of f.scenario.setup (drop used input))
 
@@ -142,7 +142,7 @@ answer_to_losing_loaded name input (Err (version number)) = refused (status.Stat
 abbrev pub IsAnswerToLosingFile : List ℕ → List ℕ → Answer → Type 0
 IsAnswerToLosingFile name input a = (l : Loaded) × IsLoaded input l × (a ≡ answer_to_losing_loaded name input l)
 
--- ---- to a script's declarations with a trace behind them. Steps of the script are read, and not looked at
+-- ---- to a script's declarations with a trace after them. Steps of the script are read, and not looked at
 abbrev pub answer_to_judged : Result ℕ Refusal → Answer
 answer_to_judged (Ok events) = record { status = status.Ok; bytes = audit_line events }
 answer_to_judged (Err r) = refused (status.AuditRefused r.event r.rule)
@@ -165,17 +165,17 @@ summary_of number = let n = generated_run number in summary number n.setup (run 
 
 -- to a number, whose generated run passes a limit or none
 abbrev pub answer_to_generated : ℕ → Option ℕ → Answer
-answer_to_generated number o = unless_passed (summary_of number) o
+answer_to_generated number o = unless_exceeded (summary_of number) o
 
 abbrev pub answer_to_big : ℕ → Answer
-answer_to_big number = answer_to_generated number (passed_limit (generated_run number))
+answer_to_big number = answer_to_generated number (exceeded_limit (generated_run number))
 
 -- the bytes of the steps of that run, and the answer
 abbrev pub big_steps : ℕ → List ℕ
 big_steps number = steps_by_schedule (generated_run number)
 
 abbrev pub answer_to_big_steps : ℕ → Answer
-answer_to_big_steps number = unless_passed (big_steps number) (passed_limit (generated_run number))
+answer_to_big_steps number = unless_exceeded (big_steps number) (exceeded_limit (generated_run number))
 
 -- ---- to an input: 67,108,864 bytes at most are read (limit 1; own, so that reading ends)
 abbrev pub IsAnswerToBytes : Reading → List ℕ → Answer → Type 0

@@ -6,19 +6,19 @@ use Rattle.geo_base.specs.Run.{Limits, Ran, no_limits, run, run_from}
 use Rattle.geo_base.specs.World.{World}
 use Rattle.world.specs.Runs.{at_world}
 use Rattle.state_file.specs.State.{SavedState, state_in}
-use Rattle.world_kept.specs.Saved.{world_from}
+use Rattle.kept_laws.specs.Saved.{world_from}
 use Rattle.script_text.specs.Script.{Script}
 use Rattle.state_file.specs.Texts.{state_text}
 
--- a script with a stop of everything behind its steps
+-- a script with a stop of everything after its steps
 abbrev pub stopped : Script → Script
 stopped n = record n { steps = n.steps ++ step.Stop ∷ [] }
 
--- and with more steps behind that
+-- and with more steps after that
 abbrev pub gone_on : Script → List Step → Script
 gone_on n es = record n { steps = n.steps ++ step.Stop ∷ es }
 
--- the state behind its run and the stop, and the bytes of that state
+-- the state after its run and the stop, and the bytes of that state
 abbrev pub state_of_run : Script → SavedState
 state_of_run n = state_in n (run n.setup (stopped n).steps)
 

@@ -14,9 +14,9 @@ use Rattle.script_text.specs.Script.{Script}
 use Rattle.state_file.specs.State.{SavedState}
 use Rattle.step_laws.specs.Steps.{steps_lines}
 use Rattle.world.specs.Runs.{at_world}
-use Rattle.world_kept.specs.Saved.{world_from}
+use Rattle.kept_laws.specs.Saved.{world_from}
 
--- what a script declares, as a state file has it, and behind the line `steps` the report of the world where these steps begin, and what
+-- what a script declares, as a state file has it, and after the line `steps` the report of the world where these steps begin, and what
 -- each of them changed, told with the line that says it
 abbrev pub steps_text : Script → World → List Said → List Step → List ℕ
 steps_text n w said es =
@@ -30,7 +30,7 @@ steps_of text n = steps_text n (opening_world n.setup) (said_in n.first_event te
 abbrev pub AreAllSaid : List ℕ → Script → Type 0
 AreAllSaid text n = length n.steps ≤ length (said_in n.first_event text)
 
--- of a run that goes on from a state, by the lines behind it
+-- of a run that goes on from a state, by the lines after it
 abbrev pub steps_on : SavedState → List ℕ → List Step → List ℕ
 steps_on f lines es = steps_text f.scenario (world_from f) (said_from 1 (lines_of lines)) es
 

@@ -4,7 +4,7 @@ use Rattle.std.specs.Prelude.{ℕ, ◌+◌, ◌<◌, List, [], ◌∷◌, ◌++�
 use Rattle.geo_base.specs.Report.{with_line_feeds}
 use Rattle.geo_base.specs.Setup.{Setup}
 use Rattle.geo_base.specs.World.{World, topic_at}
-use Rattle.topic_upkeep.specs.Readable.{AreTellable}
+use Rattle.tiered_storage.specs.Readable.{AreTellable}
 use Rattle.report_lines.specs.Tiers.{tier_lines}
 
 -- of topic t, whose name is topic, at each cluster from x on; the last closed ledgers, keep of them, stay

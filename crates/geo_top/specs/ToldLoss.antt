@@ -23,11 +23,11 @@ pub record IsToldLoss (c : Option Command) (input output : List ℕ) (s : Status
   pub ended : (name : List ℕ) (names : Bool) → s ≡ status.Ok → c ≡ Some (lost_command name names)
       → IsOkAnd (script_of input) (λ n. Declares n.setup name × (output ≡ lost_of name names n) × HoldsWithin n × LossHolds n.setup (run n.setup n.steps))
   -- `lost X from` writes it, with the messages, of where the run comes to that goes on from the state that the input begins with, which
-  -- declares X, over the schedule behind its bytes, and that run passes no limit;
+  -- declares X, over the schedule after its bytes, and that run passes no limit;
   pub on_state : (name : List ℕ) → s ≡ status.Ok → c ≡ Some (lost_on_command name) → (g : SavedState) × (used : ℕ) × IsLoaded input (Ok (g, used))
       × IsOkAnd (schedule_of g.scenario.setup (drop used input)) (λ es. Declares g.scenario.setup name × (output ≡ lost_on name g es) × (resumed_limit g es ≡ None))
   -- and where that state is what `save` wrote of a script, it is what `lost X` writes of one run, that of the script with a stop of
-  -- everything and the schedule behind its steps, of which all the same holds.
+  -- everything and the schedule after its steps, of which all the same holds.
   pub one_run : (name : List ℕ) (n : Script) (lines : List ℕ) → s ≡ status.Ok → c ≡ Some (lost_on_command name) → IsSavedWith n lines input
       → IsOkAnd (schedule_of n.setup lines) (λ es. let m = gone_on n es in
       (output ≡ lost_of name true m) × HoldsWithin m × LossHolds n.setup (run n.setup m.steps))

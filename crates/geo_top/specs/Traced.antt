@@ -7,6 +7,6 @@ use Rattle.geo_base.specs.Traced.{traced}
 use Rattle.script_text.specs.Canonical.{declarations_text}
 use Rattle.script_text.specs.Script.{Script}
 
--- what the script declares, as a state file has it, and behind the line `trace` the lines of what its run under the limits tells
+-- what the script declares, as a state file has it, and after the line `trace` the lines of what its run under the limits tells
 abbrev pub traced_of : Script → List ℕ
 traced_of n = declarations_text n.setup n.chance ++ with_line_feeds (trace_lines n.setup (traced all_limits n.setup n.steps))

@@ -7,7 +7,7 @@ use Rattle.geo_base.specs.Mirror.{opening_mirrors}
 use Rattle.geo_base.specs.Run.{all_limits, run_under}
 use Rattle.geo_base.specs.Setup.{Setup}
 use Rattle.geo_base.specs.TraceItems.{Item}
-use Rattle.script_inputs.specs.Starts.{declarations_in, trace_in}
+use Rattle.script_generator.specs.Starts.{declarations_in, trace_in}
 use Rattle.script_rows.specs.NameWords.{cut_by}
 use Rattle.script_text.specs.Rules.{script_of}
 use Rattle.script_text.specs.Scenario.{IsScenario}
@@ -23,7 +23,7 @@ use Rattle.geo_top.specs.Commands.{whole_command}
 use Rattle.geo_top.specs.Outputs.{answer_to_auditing}
 use Rattle.geo_top.specs.Traced.{traced_of}
 
--- As `IsAuditedSafe`, and behind each line no cluster has a gap: what it has of another one is, entry by entry, a beginning of what that
+-- As `IsAuditedSafe`, and after each line no cluster has a gap: what it has of another one is, entry by entry, a beginning of what that
 -- has for it
 pub record IsAuditedWhole (s : Setup) (bytes : List ℕ) : Type 0 where
   pub lines : List (List ℕ)
@@ -35,11 +35,11 @@ pub record IsAuditedWhole (s : Setup) (bytes : List ℕ) : Type 0 where
   pub gapless : (before after : List Item) → before ++ after ≡ items → IsGapless s (all_told s (opening_mirrors s) before)
 
 pub record IsJudgedWhole (c : Option Command) (input output : List ℕ) (s : Status) : Type 0 where
-  -- With Ok, `audit whole` tells how many events the trace tells that stands behind the declarations: no line of it breaks a rule of
+  -- With Ok, `audit whole` tells how many events the trace tells that stands after the declarations: no line of it breaks a rule of
   -- `audit`, and each entry of another cluster is the next one of those that this cluster has for it;
   pub judged : s ≡ status.Ok → c ≡ Some whole_command
       → IsOkAnd (script_of (declarations_in input)) (λ n. (events : ℕ) × (audit_by strictness.Whole n.setup (trace_in input) ≡ Ok events) × (output ≡ audit_line events))
-  -- so behind each line all is safe, as for `audit`, and no cluster has a gap;
+  -- so after each line all is safe, as for `audit`, and no cluster has a gap;
   pub gapless : s ≡ status.Ok → c ≡ Some whole_command → IsOkAnd (script_of (declarations_in input)) (λ n. IsAuditedWhole n.setup (trace_in input))
   -- and what `trace` writes of any accepted script it accepts, and counts the events of that run.
   pub accepted : (n : Script) → IsScenario n

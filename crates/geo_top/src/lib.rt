@@ -2,7 +2,7 @@
 //!
 //! [`answer`] is the program as one call over bytes: what it answers to words and an input, a script or a state file, whose run
 //! `world` does. [`geo_alone`] reads the input from a source, and writes what is answered to a sink.
-//! [`report`] and [`refusal`] are for the one command that stands above this crate, since its nodes run on threads.
+//! [`report`] and [`refusal`] are for the one command that stands above this crate, since its brokers run on threads.
 #![tactic(auto)]
 
 mod compacted;

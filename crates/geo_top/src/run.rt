@@ -2,7 +2,7 @@
 ghost use Rattle.std.specs.Prelude.{◌≡◌, ℕ, All, Err, IfOk, None, OnOk, Some};
 ghost use Rattle.geo_base.specs.Run.{all_limits};
 ghost use Rattle.geo_top.specs.Finished.{IsFinished, IsResumed};
-ghost use Rattle.geo_top.specs.Outputs.{passed_limit};
+ghost use Rattle.geo_top.specs.Outputs.{exceeded_limit};
 ghost use Rattle.geo_top.specs.States.{file_of, resumed_under, state_of_run, stopped};
 ghost use Rattle.script_text.specs.Scenario.{IsStep};
 ghost use Rattle.state_file.specs.Known.{IsKnownState};
@@ -19,7 +19,7 @@ use world::{RunFault, World};
 #[tactic(auto, using(crate::proofs::Finishing::finished, crate::proofs::Finishing::passed))]
 pub fn run_script(alloc: Global, scenario: &Scenario) -> Result<World, RunFault>
     ensures done { IfOk result (IsFinished scenario.now) }
-    ensures large { (limit : ℕ) → result ≡ Err (RunFault.TooLarge limit) → passed_limit scenario.now ≡ Some limit }
+    ensures large { (limit : ℕ) → result ≡ Err (RunFault.TooLarge limit) → exceeded_limit scenario.now ≡ Some limit }
 {
     let mut world = World::new(alloc, scenario)?;
     match world.run(alloc, scenario, scenario.steps()) {
@@ -31,11 +31,11 @@ pub fn run_script(alloc: Global, scenario: &Scenario) -> Result<World, RunFault>
     }
 }
 
-/// The state file of a script's run and the stop behind it, or the limit that they pass.
+/// The state file of a script's run and the stop after it, or the limit that they pass.
 pub fn save_script(alloc: Global, scenario: Scenario) -> Result<Blob, RunFault>
     ensures done { IfOk result (λ bytes. bytes ≡ file_of scenario) }
-    ensures within { OnOk result (passed_limit (stopped scenario) ≡ None) }
-    ensures large { (limit : ℕ) → result ≡ Err (RunFault.TooLarge limit) → passed_limit (stopped scenario) ≡ Some limit }
+    ensures within { OnOk result (exceeded_limit (stopped scenario) ≡ None) }
+    ensures large { (limit : ℕ) → result ≡ Err (RunFault.TooLarge limit) → exceeded_limit (stopped scenario) ≡ Some limit }
 {
     let saved = saved_run(alloc, scenario)?;
     let bytes = save(alloc, &saved);
@@ -43,13 +43,13 @@ pub fn save_script(alloc: Global, scenario: Scenario) -> Result<Blob, RunFault>
     Ok(bytes?)
 }
 
-/// The state that the stop behind a script's run leaves, or the limit that they pass.
+/// The state that the stop after a script's run leaves, or the limit that they pass.
 #[tactic(auto, using(crate::proofs::Stopping::run_limit))]
 fn saved_run(alloc: Global, scenario: Scenario) -> Result<Saved, RunFault>
     ensures state { IfOk result (λ v. state_of v ≡ state_of_run scenario) }
     ensures can { IfOk result (λ v. CanSave (state_of v)) }
-    ensures within { OnOk result (passed_limit (stopped scenario) ≡ None) }
-    ensures large { (limit : ℕ) → result ≡ Err (RunFault.TooLarge limit) → passed_limit (stopped scenario) ≡ Some limit }
+    ensures within { OnOk result (exceeded_limit (stopped scenario) ≡ None) }
+    ensures large { (limit : ℕ) → result ≡ Err (RunFault.TooLarge limit) → exceeded_limit (stopped scenario) ≡ Some limit }
 {
     match run_script(alloc, &scenario) {
         Ok(world) => {
@@ -71,7 +71,7 @@ pub struct Resumed {
     pub world: World,
 }
 
-/// The world behind the steps that go on from a state, or the limit that they pass.
+/// The world after the steps that go on from a state, or the limit that they pass.
 pub fn resume(alloc: Global, saved: Saved, steps: &StepList) -> Result<Resumed, RunFault>
     requires known { IsKnownState (state_of saved) }
     requires steps { All (IsStep (state_of saved).scenario.setup) steps.now }

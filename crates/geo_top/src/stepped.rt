@@ -3,7 +3,7 @@ ghost use Rattle.std.specs.Prelude.{◌≡◌, ◌≤◌, ◌++◌, ◌∷◌, �
 ghost use Rattle.geo_base.specs.Report.{report};
 ghost use Rattle.geo_base.specs.Run.{all_limits, run_from};
 ghost use Rattle.geo_base.specs.World.{World as Machine};
-ghost use Rattle.geo_top.specs.Outputs.{passed_limit, resumed_limit};
+ghost use Rattle.geo_top.specs.Outputs.{exceeded_limit, resumed_limit};
 ghost use Rattle.geo_top.specs.Shown.{shown_world};
 ghost use Rattle.geo_top.specs.Stepped.{steps_by_schedule, steps_of, steps_on, steps_text};
 ghost use Rattle.script_text.specs.Canonical.{declarations_text};
@@ -16,8 +16,8 @@ ghost use Rattle.state_file.specs.State.{state_of};
 ghost use Rattle.step_lines.specs.Telling.{Rises};
 ghost use Rattle.world.specs.Runs.{at_world};
 ghost use Rattle.world.specs.World.{IsAt, kept_of};
-ghost use Rattle.world_kept.specs.Reached.{Reached};
-ghost use Rattle.world_kept.specs.Standing.{Stands};
+ghost use Rattle.kept_laws.specs.Reached.{Reached};
+ghost use Rattle.kept_laws.specs.Standing.{Stands};
 
 use crate::world_report::{add_head, report};
 use geo_base::{Blob, Memory};
@@ -32,8 +32,8 @@ use world::{RunFault, World};
 pub fn steps_of_script(alloc: Global, scenario: &Scenario, text: &[u8]) -> Result<Blob, RunFault>
     requires { script_of text.now ≡ Ok scenario.now }
     ensures done { IfOk result (λ bytes. bytes ≡ steps_of text.now scenario.now) }
-    ensures within { OnOk result (passed_limit scenario.now ≡ None) }
-    ensures large { (limit : ℕ) → result ≡ Err (RunFault.TooLarge limit) → passed_limit scenario.now ≡ Some limit }
+    ensures within { OnOk result (exceeded_limit scenario.now ≡ None) }
+    ensures large { (limit : ℕ) → result ≡ Err (RunFault.TooLarge limit) → exceeded_limit scenario.now ≡ Some limit }
 {
     let mut world = World::new(alloc, scenario)?;
     let said = said_of(scenario, text);
@@ -42,7 +42,7 @@ pub fn steps_of_script(alloc: Global, scenario: &Scenario, text: &[u8]) -> Resul
     told
 }
 
-/// The steps of the run that goes on from a state, with the lines behind it that say them, or the limit that the run passes.
+/// The steps of the run that goes on from a state, with the lines after it that say them, or the limit that the run passes.
 pub fn steps_on_state(
     alloc: Global,
     saved: Saved,
@@ -67,8 +67,8 @@ pub fn steps_on_state(
 /// The steps of the run of a script that no text said, with the lines of its schedule as it is written, or the limit that the run passes.
 pub fn steps_by_schedule(alloc: Global, scenario: &Scenario) -> Result<Blob, RunFault>
     ensures done { IfOk result (λ bytes. bytes ≡ steps_by_schedule scenario.now) }
-    ensures within { OnOk result (passed_limit scenario.now ≡ None) }
-    ensures large { (limit : ℕ) → result ≡ Err (RunFault.TooLarge limit) → passed_limit scenario.now ≡ Some limit }
+    ensures within { OnOk result (exceeded_limit scenario.now ≡ None) }
+    ensures large { (limit : ℕ) → result ≡ Err (RunFault.TooLarge limit) → exceeded_limit scenario.now ≡ Some limit }
 {
     let steps = scenario.steps();
     let lines = write_schedule(alloc, scenario, steps)?;
@@ -93,7 +93,7 @@ fn said_of<'a>(scenario: &Scenario, text: &'a [u8]) -> SaidLines<'a>
     }
 }
 
-/// Has a world do steps, each of which a line says, and tells them behind what the script declares and the report of where they begin; or
+/// Has a world do steps, each of which a line says, and tells them after what the script declares and the report of where they begin; or
 /// the limit that they pass.
 fn tell(
     alloc: Global,

@@ -33,7 +33,7 @@ pub fn append_summary(
     out.append(lines.as_slice())
 }
 
-/// Appends it behind no other line.
+/// Appends it after no other line.
 #[tactic(auto, unfolding(crate::specs::Summary::summary_lines))]
 fn add_summary(
     alloc: Global,

@@ -7,9 +7,9 @@ ghost use Rattle.geo_base.specs.Report.{entry_lines, with_line_feeds};
 ghost use Rattle.geo_top.specs.Shown.{shown_world};
 ghost use Rattle.geo_top.specs.Tiered.{AreTopicsTellable, tiered, tiers_at, tiers_of};
 ghost use Rattle.report_lines.specs.Tiers.{moved_line};
-ghost use Rattle.topic_upkeep.specs.Kept.{kept_in};
-ghost use Rattle.topic_upkeep.specs.Calls.{offloaded};
-ghost use Rattle.topic_upkeep.specs.Tiered.{Holds};
+ghost use Rattle.tiered_storage.specs.Kept.{kept_in};
+ghost use Rattle.tiered_storage.specs.Calls.{offloaded};
+ghost use Rattle.tiered_storage.specs.Tiered.{Holds};
 ghost use Rattle.world.specs.World.{IsAt};
 
 use geo_base::limits::CLUSTERS;

@@ -1,6 +1,6 @@
 //! The trace of a script's run.
 ghost use Rattle.std.specs.Prelude.{◌≡◌, ◌++◌, ◌∷◌, ℕ, [], codes, Err, IfOk, None, OnOk, Some};
-ghost use Rattle.geo_top.specs.Outputs.{passed_limit};
+ghost use Rattle.geo_top.specs.Outputs.{exceeded_limit};
 ghost use Rattle.geo_top.specs.Traced.{traced_of};
 ghost use Rattle.script_text.specs.Canonical.{declarations_text};
 
@@ -13,8 +13,8 @@ use world::{RunFault, World};
 /// The trace of a script's run, or the limit that the run passes.
 pub fn trace_script(alloc: Global, scenario: &Scenario) -> Result<Blob, RunFault>
     ensures done { IfOk result (λ bytes. bytes ≡ traced_of scenario.now) }
-    ensures within { OnOk result (passed_limit scenario.now ≡ None) }
-    ensures large { (limit : ℕ) → result ≡ Err (RunFault.TooLarge limit) → passed_limit scenario.now ≡ Some limit }
+    ensures within { OnOk result (exceeded_limit scenario.now ≡ None) }
+    ensures large { (limit : ℕ) → result ≡ Err (RunFault.TooLarge limit) → exceeded_limit scenario.now ≡ Some limit }
 {
     let head = head(alloc, scenario)?;
     let mut world = World::new(alloc, scenario)?;

@@ -10,7 +10,7 @@ use Rattle.wire_ends.specs.Pieces.{begun_after, begun_at_end, gives, packets, pa
 use Rattle.wire_ends.proofs.Joining.{begun_append, packets_append}
 use Rattle.link_rings.specs.Gathering.{Gives, all_but_last, behind, nothing}
 
--- pieces one behind another
+-- pieces one after another
 both : (j : Joined) (ps qs : List Piece) → with_pieces j (ps ++ qs) ≡ with_pieces (with_pieces j ps) qs
 both j ps qs =
     ap (λ (ws : List WirePacket). record { begun = begun_at_end j.begun (ps ++ qs); whole = j.whole ++ ws }) (packets_append j.begun ps qs)

@@ -12,7 +12,7 @@ pub record Sending : Type 0 where
   pub most : ℕ
   pub looks : ℕ
 
--- the end that takes: all pieces popped so far, those that a look has shown behind them, those popped that memory was wanting for,
+-- the end that takes: all pieces popped so far, those that a look has shown after them, those popped that memory was wanting for,
 -- what the others gave, how many bytes a part has at most, how often it looked, and the packets taken
 pub record Taking : Type 0 where
   pub received : List Piece

@@ -16,7 +16,7 @@ use rtrb::Consumer;
 use std::alloc::Global;
 use std::fmt;
 use std::marker::Model;
-use wire_ends::{Joiner, Parcel, Passed, Piece, WirePacket};
+use wire_ends::{GhostHistory, Joiner, Parcel, Piece, WirePacket};
 
 /// The end of a ring that takes. Pieces are brought over only while no packet is shown, so that the ring's places bound what is
 /// under way. It is no [`wire_ends::End`] by itself, since nothing can be sent here; [`crate::RingEnd`] is.
@@ -28,7 +28,7 @@ pub struct RingTake {
     gathered: Joiner,
     most: usize,
     looks: u64,
-    taken: Passed<WirePacket>,
+    taken: GhostHistory<WirePacket>,
 }
 
 impl Model for RingTake {
@@ -66,7 +66,7 @@ impl RingTake {
             gathered: Joiner::new(alloc),
             most,
             looks: 0,
-            taken: Passed::new(),
+            taken: GhostHistory::new(),
         }
     }
 

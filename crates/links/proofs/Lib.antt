@@ -1,4 +1,3 @@
-pub mod Mapped
 pub mod Pairs
 pub mod Sending
 pub mod Simulated

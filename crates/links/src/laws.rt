@@ -30,7 +30,7 @@ pub fn law_next()
         → stamp_of (packet_on ls takes) ≡ machine_stamp (packet_at ms (taken_name (length names) takes)) }
 {}
 
-/// A packet that is taken and nothing else, as where a broker stops behind a durable write.
+/// A packet that is taken and nothing else, as where a broker stops after a durable write.
 pub fn law_taken()
     ensures { (names : List (List ℕ)) (takes : Option LinkName) (ls : WireLinks) (ms : Links) → LinksStand names ls ms
         → LinksStand names (taken_from takes ls) (machine_taken (taken_name (length names) takes) ms) }

@@ -10,6 +10,7 @@ use Rattle.geo_base.specs.Run.{Limits, Ran, all_limits, all_settle, ends_or, goe
 use Rattle.geo_base.specs.Setup.{Setup}
 use Rattle.geo_base.specs.World.{World}
 use Rattle.live_output.specs.Schedules.{EndsSettled, IsLongest, fits, longest, scheduled, with_settling}
+use Rattle.geo_base.proofs.Results.{none_is_not_some}
 
 -- ---- a run that has ended does not go on
 abbrev HasEnded : Ran → Type 0
@@ -58,9 +59,6 @@ some_of : (o : Option ℕ) → not (is_some o) ≡ false → o ≢ None
 some_of None h = λ e. false≢true (sym h)
 some_of (Some n) h = λ e. absurd (cc e)
 
-is_none : (o : Option ℕ) → o ≡ None → not (is_some o) ≡ true
-is_none o h = ap (λ (o : Option ℕ). not (is_some o)) h
-
 -- what fits has beginnings that fit
 fits_before : (s : Setup) (es fs : List Step) → fits s (es ++ fs) ≡ true → fits s es ≡ true
 fits_before s es fs h = by (is_some (run_under all_limits s es).ended) refl
@@ -103,7 +101,7 @@ settling_fits s es h = by (fits s (es ++ step.Settle ∷ [])) refl
     by false e = h
 
 pub within_law : (s : Setup) (es : List Step) → (run_under all_limits s (scheduled s es)).ended ≡ None
-within_law s es = none_of _ (settling_fits s (longest s [] es) (is_none _ (longest_law s es).within))
+within_law s es = none_of _ (settling_fits s (longest s [] es) (none_is_not_some _ (longest_law s es).within))
 
 pub settled_law : (s : Setup) (es : List Step) → EndsSettled s (scheduled s es)
 settled_law s es = by (fits s (longest s [] es ++ step.Settle ∷ [])) refl
@@ -124,4 +122,4 @@ whole_from s done (e ∷ es) h = by (fits s (done ++ e ∷ [])) (fits_before s (
     by false e' rest = absurd (false≢true e')
 
 pub whole_law : (s : Setup) (es : List Step) → (run_under all_limits s es).ended ≡ None → longest s [] es ≡ es
-whole_law s es h = whole_from s [] es (is_none _ h)
+whole_law s es h = whole_from s [] es (none_is_not_some _ h)

@@ -16,18 +16,19 @@ use Rattle.script_text.specs.Script.{Script}
 use Rattle.world.specs.declared.fault.RunFault.{RunFault}
 use Rattle.world.specs.declared.fault.RunFault.TheVariants as fault
 use Rattle.world.specs.Runs.{Comes, at_world}
-use Rattle.world.specs.World.{IsAt, WorldBook, kept_of}
+use Rattle.world.specs.World.{IsAt, WorldView, kept_of}
 use Rattle.world.proofs.ManySteps.{reaches}
-use Rattle.world_kept.specs.Kept.{Kept, opening_kept}
-use Rattle.world_kept.specs.Standing.{Stands}
-use Rattle.world_kept.specs.Reached.{Reached}
-use Rattle.world_kept.proofs.Keeping.{opening}
-use Rattle.world_kept.proofs.Reaching.{opening_reached}
+use Rattle.kept_laws.specs.Kept.{Kept, opening_kept}
+use Rattle.kept_laws.specs.Standing.{Stands}
+use Rattle.kept_laws.specs.Reached.{Reached}
+use Rattle.kept_laws.proofs.Keeping.{opening}
+use Rattle.kept_laws.proofs.Reaching.{opening_reached}
 use Rattle.geo_top.proofs.Limits.{unlimited}
 use Rattle.geo_top.proofs.Quiet.{run_append}
 use Rattle.live_output.specs.Playing.{HasPlace, IsEventStep, IsPlayed}
 use Rattle.live_output.specs.Schedules.{fits, longest, with_settling}
 use Rattle.live_output.proofs.Longest.{whole_law}
+use Rattle.geo_base.proofs.Results.{none_is_not_some}
 
 abbrev Answer : Type 0
 Answer = Result (Unit {0}) RunFault
@@ -35,7 +36,7 @@ Answer = Result (Unit {0}) RunFault
 abbrev opening_run : Setup → Ran
 opening_run s = at_world (opening_world s)
 
--- ---- the machine's run behind such steps
+-- ---- the machine's run after such steps
 reached_from : (s : Setup) (r : Ran) (es : List Step) → Reached s r.world → Reached s (run_from all_limits s r es).world
 reached_from s r [] h = h
 reached_from s r (e ∷ es) h = reached_from s (steps all_limits s r e) es (reaches s r e h)
@@ -58,10 +59,10 @@ reached_run s es none =
     subst (Reached s) (unlimited all_limits s es none) (reached_from s (opening_run s) es (opening_reached s))
 
 -- ---- one more step
-abbrev ComesBy : Setup → WorldBook → WorldBook → Step → Answer → Type 0
+abbrev ComesBy : Setup → WorldView → WorldView → Step → Answer → Type 0
 ComesBy s old new e r = (w : World) → Reached s w → Stands s (kept_of old) w → Comes s new (steps all_limits s (at_world w) e) r
 
-come : (n : Script) (es : List Step) (old new : WorldBook) (e : Step) (r : Answer) → IsPlayed n es old → ComesBy n.setup old new e r
+come : (n : Script) (es : List Step) (old new : WorldView) (e : Step) (r : Answer) → IsPlayed n es old → ComesBy n.setup old new e r
     → Comes n.setup new (run_under all_limits n.setup (es ++ e ∷ [])) r
 come n es old new e r played comes =
     let f = played.finished in
@@ -71,7 +72,7 @@ ok_of : {X : Type 0} (r : Answer) (u : Unit {0}) → r ≡ Ok u → OnOk r X →
 ok_of {X} r u is h = subst (λ (r : Answer). OnOk r X) is h
 
 -- it is done
-pub one_more : (n : Script) (es fs : List Step) (old new : WorldBook) (e : Step) (r : Answer) (u : Unit {0}) → IsPlayed n es old → ComesBy n.setup old new e r → IsAt n.setup new
+pub one_more : (n : Script) (es fs : List Step) (old new : WorldView) (e : Step) (r : Answer) (u : Unit {0}) → IsPlayed n es old → ComesBy n.setup old new e r → IsAt n.setup new
     → r ≡ Ok u → IsStep n.setup e → fs ≡ es ++ e ∷ [] → IsPlayed n fs new
 one_more n es fs old new e r u played comes at ok known is =
     let s = n.setup in
@@ -85,21 +86,18 @@ one_more n es fs old new e r u played comes at ok known is =
       known = All-push (IsStep s) es e played.known known;
     })
 
-fits_none : (o : Option ℕ) → o ≡ None → not (is_some o) ≡ true
-fits_none o none = ap (λ (o : Option ℕ). not (is_some o)) none
-
 fits_some : (o : Option ℕ) (limit : ℕ) → o ≡ Some limit → not (is_some o) ≡ false
 fits_some o limit some = ap (λ (o : Option ℕ). not (is_some o)) some
 
-pub one_more_fits : (n : Script) (es : List Step) (old new : WorldBook) (e : Step) (r : Answer) (u : Unit {0}) → IsPlayed n es old → ComesBy n.setup old new e r
+pub one_more_fits : (n : Script) (es : List Step) (old new : WorldView) (e : Step) (r : Answer) (u : Unit {0}) → IsPlayed n es old → ComesBy n.setup old new e r
     → r ≡ Ok u → fits n.setup (es ++ e ∷ []) ≡ true
 one_more_fits n es old new e r u played comes ok =
-    fits_none (run_under all_limits n.setup (es ++ e ∷ [])).ended (ok_of r u ok (come n es old new e r played comes).done).1
+    none_is_not_some (run_under all_limits n.setup (es ++ e ∷ [])).ended (ok_of r u ok (come n es old new e r played comes).done).1
 
 -- it passes a limit
-pub one_more_passes : (n : Script) (es : List Step) (old new : WorldBook) (e : Step) (r : Answer) (f : RunFault) (limit : ℕ) → IsPlayed n es old → ComesBy n.setup old new e r
+pub one_more_exceeds : (n : Script) (es : List Step) (old new : WorldView) (e : Step) (r : Answer) (f : RunFault) (limit : ℕ) → IsPlayed n es old → ComesBy n.setup old new e r
     → r ≡ Err f → f ≡ fault.TooLarge limit → fits n.setup (es ++ e ∷ []) ≡ false
-one_more_passes n es old new e r f limit played comes err large =
+one_more_exceeds n es old new e r f limit played comes err large =
     fits_some (run_under all_limits n.setup (es ++ e ∷ [])).ended limit ((come n es old new e r played comes).large limit (err ∙ ap (λ (f : RunFault). Err f) large)).1
 
 -- and where it is an event, nothing was done of it
@@ -117,7 +115,7 @@ step_over s w (step.Halt i e) limit is past = absurd is
 step_over s w step.Settle limit is past = absurd is
 step_over s w step.Stop limit is past = absurd is
 
-pub still_played : (n : Script) (es fs : List Step) (old new : WorldBook) (e : Step) (r : Answer) (f : RunFault) (limit : ℕ) → IsPlayed n es old → ComesBy n.setup old new e r
+pub still_played : (n : Script) (es fs : List Step) (old new : WorldView) (e : Step) (r : Answer) (f : RunFault) (limit : ℕ) → IsPlayed n es old → ComesBy n.setup old new e r
     → IsAt n.setup new → r ≡ Err f → f ≡ fault.TooLarge limit → IsEventStep n.setup e → fs ≡ es → IsPlayed n fs new
 still_played n es fs old new e r f limit played comes at err large event is =
     let s = n.setup in
@@ -134,7 +132,7 @@ still_played n es fs old new e r f limit played comes at err large event is =
     })
 
 -- before any step
-pub none_played : (n : Script) (b : WorldBook) (es : List Step) → kept_of b ≡ opening_kept n.setup → IsAt n.setup b → es ≡ [] → IsPlayed n es b
+pub none_played : (n : Script) (b : WorldView) (es : List Step) → kept_of b ≡ opening_kept n.setup → IsAt n.setup b → es ≡ [] → IsPlayed n es b
 none_played n b es opens at is =
     let s = n.setup in
     subst (λ (gs : List Step). IsPlayed n gs b) (sym is) (record {
@@ -181,7 +179,7 @@ more_events s steps done new i k small at all before is =
     let one : IsEventStep s k = subst (λ (e : Step). IsEventStep s e) at (All-get_or (IsEventStep s) steps i k small all) in
     All-same (IsEventStep s) new (done ++ k ∷ []) is (All-push (IsEventStep s) done k before one)
 
--- ---- settling behind them
+-- ---- settling after them
 pub with_settled : (s : Setup) (es : List Step) → fits s (es ++ step.Settle ∷ []) ≡ true → with_settling s es ≡ es ++ step.Settle ∷ []
 with_settled s es h = ap (λ (b : Bool). if b then es ++ step.Settle ∷ [] else es) h
 
@@ -193,14 +191,14 @@ pub none_settled : {T : Type 0} (s : Setup) (es : List Step) (steps_of : T → L
 none_settled s es steps_of (Ok p) h none is = without_settling s es (steps_of p) h none is
 none_settled s es steps_of (Err e) h none is = tt
 
--- where it passes none, the step that says so stands behind all others
+-- where it passes none, the step that says so stands after all others
 pub settled_steps : {T : Type 0} (s : Setup) (es : List Step) (steps_of : T → List Step) (r : Result T Memory) → fits s (es ++ step.Settle ∷ []) ≡ true
     → IfOk r (λ p. steps_of p ≡ es ++ step.Settle ∷ []) → IfOk r (λ p. steps_of p ≡ with_settling s es)
 settled_steps s es steps_of (Ok p) h is = is ∙ sym (with_settled s es h)
 settled_steps s es steps_of (Err e) h is = tt
 
-pub settled_at : {T : Type 0} (n : Script) (es : List Step) (w : WorldBook) (steps_of : T → List Step) (world_of : T → WorldBook) (r : Result T Memory)
+pub settled_at : {T : Type 0} (n : Script) (es : List Step) (w : WorldView) (steps_of : T → List Step) (world_of : T → WorldView) (r : Result T Memory)
     → IfOk r (λ p. steps_of p ≡ es) → IfOk r (λ p. world_of p ≡ w) → IsPlayed n es w → IfOk r (λ p. IsPlayed n (steps_of p) (world_of p))
 settled_at n es w steps_of world_of (Ok p) is here at =
-    subst (λ (fs : List Step). IsPlayed n fs (world_of p)) (sym is) (subst (λ (b : WorldBook). IsPlayed n es b) (sym here) at)
+    subst (λ (fs : List Step). IsPlayed n fs (world_of p)) (sym is) (subst (λ (b : WorldView). IsPlayed n es b) (sym here) at)
 settled_at n es w steps_of world_of (Err e) is here at = tt

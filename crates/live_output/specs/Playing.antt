@@ -5,10 +5,10 @@ use Rattle.geo_base.specs.declared.event.Step.{Step}
 use Rattle.geo_base.specs.declared.event.Step.TheVariants as step
 use Rattle.geo_base.specs.Setup.{Setup}
 use Rattle.script_rows.specs.declared.value.Value.TheVariants as value
-use Rattle.script_rows.specs.Written.{IsPlaceValue}
+use Rattle.script_rows.specs.Written.{IsPositionOrEnd}
 use Rattle.script_text.specs.Scenario.{IsStep}
 use Rattle.script_text.specs.Script.{Script}
-use Rattle.world.specs.World.{WorldBook}
+use Rattle.world.specs.World.{WorldView}
 use Rattle.geo_top.specs.Finished.{IsFinished}
 
 -- a script with these steps in place of its own
@@ -17,7 +17,7 @@ with_steps n es = record n { steps = es }
 
 -- the place that a step seeks, if it seeks one, has numbers of 64 bits, as every value of the step's type has
 abbrev pub HasPlace : Step → Type 0
-HasPlace (step.Plain (event.Seek t x n to)) = IsPlaceValue (value.Place to)
+HasPlace (step.Plain (event.Seek t x n to)) = IsPositionOrEnd (value.PositionOrEnd to)
 HasPlace k = ⊤
 
 -- an event that a script may schedule, where the place that it seeks has such numbers
@@ -25,7 +25,7 @@ abbrev pub IsEventStep : Setup → Step → Type 0
 IsEventStep s (step.Plain e) = HasPlace (step.Plain e) → IsStep s (step.Plain e)
 IsEventStep s k = ⊥
 
--- the steps pass no limit, the world stands for the machine's behind them, and each of them is one that a script may schedule
-pub record IsPlayed (n : Script) (es : List Step) (b : WorldBook) : Type 0 where
+-- the steps pass no limit, the world stands for the machine's after them, and each of them is one that a script may schedule
+pub record IsPlayed (n : Script) (es : List Step) (b : WorldView) : Type 0 where
   pub finished : IsFinished (with_steps n es) b
   pub known : All (IsStep n.setup) es

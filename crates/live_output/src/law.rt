@@ -5,8 +5,8 @@ ghost use Rattle.geo_base.specs.Run.{all_limits, run_under};
 ghost use Rattle.geo_base.specs.Setup.{Setup};
 ghost use Rattle.live_output.specs.Schedules.{EndsSettled, IsLongest, longest, scheduled};
 
-/// The longest part of given steps whose run passes no limit, with `settle` behind it exactly where that passes none. So the
-/// run over the whole schedule passes no limit; and its last step is to settle, unless settling behind it passes one.
+/// The longest part of given steps whose run passes no limit, with `settle` after it exactly where that passes none. So the
+/// run over the whole schedule passes no limit; and its last step is to settle, unless settling after it passes one.
 pub fn law_schedules()
     ensures longest { (s : Setup) (es : List Step) → IsLongest s es (longest s [] es) }
     ensures within { (s : Setup) (es : List Step) → (run_under all_limits s (scheduled s es)).ended ≡ None }

@@ -9,7 +9,7 @@ use script_text::{Scenario, StepList};
 use std::alloc::Global;
 use world::{RunFault, World};
 
-/// The world behind steps whose run passes no limit, and these steps.
+/// The world after steps whose run passes no limit, and these steps.
 #[derive(Drop)]
 pub(crate) struct Played {
     pub world: World,
@@ -94,7 +94,7 @@ pub(crate) fn replay(alloc: Global, scenario: &Scenario, steps: &StepList) -> Re
     }
 }
 
-/// The run with settling behind it, where that passes no limit. An `Err` is want of memory.
+/// The run with settling after it, where that passes no limit. An `Err` is want of memory.
 pub(crate) fn settle_where_it_fits(
     alloc: Global,
     scenario: &Scenario,
@@ -120,7 +120,7 @@ pub(crate) fn settle_where_it_fits(
     }
 }
 
-/// A world that has settled behind some steps, with the step that says so.
+/// A world that has settled after some steps, with the step that says so.
 fn settled(world: World, mut steps: StepList) -> Result<Played, Memory>
     ensures steps { IfOk result (λ p. p.steps ≡ steps ++ kind.Settle ∷ []) }
     ensures world { IfOk result (λ p. p.world ≡ world) }

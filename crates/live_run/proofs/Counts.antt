@@ -1,4 +1,4 @@
--- How many books there are behind one more topic.
+-- How many logs there are after one more topic.
 use Rattle.std.proofs.Common.{◌≡◌, ℕ, ◌+◌, ◌*◌, ap, ◌∙◌}
 use Rattle.std.proofs.Math.Nat.{add-mul, one-mul}
 

@@ -3,25 +3,20 @@ use Rattle.std.proofs.Common.{◌≡◌, ℕ, ◌+◌, ◌<◌, ◌≤◌, Bool,
 use Rattle.std.specs.Prelude.{if◌then◌else◌, not, ◌&&◌, ◌||◌, nat_lt}
 use Rattle.std.proofs.lemmas.Bool.{eq-eqb, lt-ltb}
 use Rattle.std.proofs.lemmas.Bool.Decides.{nat_tests}
-use Rattle.book_parts.specs.declared.table.EndRow.{EndRow}
-use Rattle.book_parts.specs.Peers.{same_peer}
-use Rattle.book_parts.specs.Rows.{has_peer}
+use Rattle.log_parts.specs.declared.table.EndRow.{EndRow}
+use Rattle.log_parts.specs.Peers.{same_peer}
+use Rattle.log_parts.specs.Rows.{has_peer}
 use Rattle.geo_base.specs.declared.packet.Peer.{Peer}
 use Rattle.geo_base.specs.declared.packet.Peer.TheVariants as peer
 use Rattle.geo_base.specs.Nodes.{BrokerNode, ClientNode, is_peer}
 use Rattle.geo_base.specs.Setup.{Setup, declared_at}
 use Rattle.live_run.specs.Linked.{GainsBroker, GainsPeer, HasBrokers, HasClients, HasPeers, HasSites, are_brokers, are_clients, are_sites}
+use Rattle.geo_base.proofs.Bools.{or_assoc}
+use Rattle.geo_base.proofs.Sums.{eq_apart}
 
 or_false : (a : Bool) → (a || false) ≡ a
 or_false true = refl
 or_false false = refl
-
-or_assoc : (a b c : Bool) → ((a || b) || c) ≡ (a || (b || c))
-or_assoc true b c = refl
-or_assoc false b c = refl
-
-not_one : (n x : ℕ) → (n ≡ x → ⊥) → (n == x) ≡ false
-not_one n x other = grind (arith, nat_tests, other)
 
 -- the numbers below n + 1 are those below n, and n
 one_more : (n y : ℕ) → (nat_lt y n || (n == y)) ≡ nat_lt y (n + 1)
@@ -158,7 +153,7 @@ same_client s t n c away = same_of (nat_lt c n) (n == c) (nat_lt c (n + 1)) ((de
     no : (n == c) ≡ true → ((declared_at s c).topic == t) ≡ false
     no same =
         let is : n ≡ c = grind (arith, nat_tests, same) in
-        not_one (declared_at s c).topic t (λ so. away (ap (λ (k : ℕ). (declared_at s k).topic) is ∙ so))
+        eq_apart (declared_at s c).topic t (λ so. away (ap (λ (k : ℕ). (declared_at s k).topic) is ∙ so))
 
 pub clients_next : {E : Type 0} (s : Setup) (t x n : ℕ) (old new : List (EndRow E)) → (declared_at s n).topic ≡ t → HasClients s t x n old → GainsPeer (peer.Client n) old new → HasClients s t x (n + 1) new
 clients_next s t x n old new here before more = record {

@@ -1,8 +1,8 @@
 -- The peers to which a table has ends, while links are made one after another.
 use Rattle.std.specs.Prelude.{◌≡◌, ℕ, nat_lt, ◌==◌, Bool, false, not, ◌&&◌, ◌||◌, List, length}
-use Rattle.book_parts.specs.declared.table.EndRow.{EndRow}
-use Rattle.book_parts.specs.Peers.{same_peer}
-use Rattle.book_parts.specs.Rows.{has_peer}
+use Rattle.log_parts.specs.declared.table.EndRow.{EndRow}
+use Rattle.log_parts.specs.Peers.{same_peer}
+use Rattle.log_parts.specs.Rows.{has_peer}
 use Rattle.geo_base.specs.declared.packet.Peer.{Peer}
 use Rattle.geo_base.specs.declared.packet.Peer.TheVariants as peer
 use Rattle.geo_base.specs.Nodes.{Node, is_peer}

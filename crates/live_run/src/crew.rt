@@ -1,7 +1,7 @@
 //! The actors of a worker, in rotation.
 ghost use Rattle.std.specs.Prelude.{◌<◌};
 
-use crate::books::LockedBook;
+use crate::logs::LockedLog;
 use actors::{Actor, Role, broker_number, client_number, cluster_count};
 use geo_base::Memory;
 use geo_io::Gate;
@@ -13,7 +13,7 @@ use std::thread::yield_now;
 /// How many places a packet takes in a ring at least: that of its head, and that of a part of its frame.
 const PACKET_PLACES: usize = 2;
 
-/// An actor, and the nodes at whose books it takes its turns: so many from one on.
+/// An actor, and the nodes at whose logs it takes its turns: so many from one on.
 #[derive(Drop)]
 struct Member {
     actor: Actor,
@@ -25,7 +25,7 @@ impl Member {
     /// The actor of a number and a role. A server goes to the topic's brokers at all clusters, every other actor to one node.
     fn new(scenario: &Scenario, number: u32, role: Role) -> Member {
         let (first, nodes) = match role {
-            Role::Sender(link) => (broker_number(scenario, link.topic, link.source), 1),
+            Role::Replicator(link) => (broker_number(scenario, link.topic, link.source), 1),
             Role::Receiver(link) => (broker_number(scenario, link.topic, link.target), 1),
             Role::Controller { topic, cluster } | Role::Dispatcher { topic, cluster, .. } => {
                 (broker_number(scenario, topic, cluster), 1)
@@ -43,22 +43,17 @@ impl Member {
         }
     }
 
-    /// A turn: the books of its nodes are taken in order, one at a time, until the actor does an event. Whether it did one; an `Err` is
+    /// A turn: the logs of its nodes are taken in order, one at a time, until the actor does an event. Whether it did one; an `Err` is
     /// want of memory. A client connects only once there is room for what it sends then, as no event is done before.
-    fn turn<R: Wait>(
-        &mut self,
-        rt: &R,
-        alloc: Global,
-        books: &[LockedBook],
-    ) -> Result<bool, Memory> {
-        for locked in books.iter().skip(self.first).take(self.nodes) {
-            let mut book = locked.lock(rt);
-            let done = if self.actor.waits_for_room(&mut book, PACKET_PLACES) {
-                self.actor.turn_unconnected(alloc, &mut book)
+    fn turn<R: Wait>(&mut self, rt: &R, alloc: Global, logs: &[LockedLog]) -> Result<bool, Memory> {
+        for locked in logs.iter().skip(self.first).take(self.nodes) {
+            let mut log = locked.lock(rt);
+            let done = if self.actor.waits_for_room(&mut log, PACKET_PLACES) {
+                self.actor.turn_unconnected(alloc, &mut log)
             } else {
-                self.actor.turn(alloc, &mut book)
+                self.actor.turn(alloc, &mut log)
             };
-            drop(book);
+            drop(log);
             if done? {
                 return Ok(true);
             }
@@ -118,12 +113,12 @@ impl Crew {
     pub(crate) fn run<R: Wait, G: Gate>(
         &mut self,
         rt: &R,
-        books: &[LockedBook],
+        logs: &[LockedLog],
         turns: u64,
         gate: &G,
     ) {
         for turn in 0..turns {
-            if self.turn(rt, books, turn, gate).is_err() {
+            if self.turn(rt, logs, turn, gate).is_err() {
                 self.is_short = true;
                 return;
             }
@@ -134,7 +129,7 @@ impl Crew {
     fn turn<R: Wait, G: Gate>(
         &mut self,
         rt: &R,
-        books: &[LockedBook],
+        logs: &[LockedLog],
         turn: u64,
         gate: &G,
     ) -> Result<(), Memory> {
@@ -145,7 +140,7 @@ impl Crew {
             return Ok(());
         };
         gate.pass(self.worker, member.actor.number(), turn);
-        let did = member.turn(rt, self.alloc, books)?;
+        let did = member.turn(rt, self.alloc, logs)?;
         self.next += 1;
         self.rest(did);
         Ok(())

@@ -4,9 +4,9 @@ ghost use Rattle.geo_base.specs.Nodes.{BrokerNode, ClientNode, node_count, node_
 ghost use Rattle.live_run.specs.Linked.{GainsBroker, GainsPeer, HasBrokers, HasClients, HasPeers, HasSites};
 
 use actors::{broker_number, client_count, client_number, cluster_count, node_count, topic_of};
-use book_parts::{EndRow, EndTable};
 use geo_base::{Memory, Peer};
 use link_rings::{RING_PLACES, RingEnd, ring};
+use log_parts::{EndRow, EndTable};
 use script_text::Scenario;
 use std::alloc::Global;
 use std::marker::Model;
@@ -14,7 +14,7 @@ use wire_ends::PART_BYTES;
 
 /// Where the ends to a peer stand: the number of a node, and how it names the peer.
 #[derive(Clone, Copy, Drop, PartialEq, Eq)]
-struct Place {
+struct PeerEnd {
     node: usize,
     peer: Peer,
 }
@@ -136,20 +136,20 @@ impl NodeRings {
         ensures linked { OnOk result (GainsBroker other.cluster ends.old.rows.items ends.new.rows.items) }
         ensures nodes { self.new ≡ self.old }
     {
-        let here = Place {
+        let here = PeerEnd {
             node: own.node,
             peer: Peer::Forward(other.cluster),
         };
-        let there = Place {
+        let there = PeerEnd {
             node: other.node,
             peer: Peer::Back(own.cluster),
         };
         self.link(alloc, here, there, ends)?;
-        let here = Place {
+        let here = PeerEnd {
             node: own.node,
             peer: Peer::Back(other.cluster),
         };
-        let there = Place {
+        let there = PeerEnd {
             node: other.node,
             peer: Peer::Forward(own.cluster),
         };
@@ -198,11 +198,11 @@ impl NodeRings {
         if topic_of(scenario, client) != own.topic {
             return Ok(());
         }
-        let here = Place {
+        let here = PeerEnd {
             node: own.node,
             peer: Peer::Client(client),
         };
-        let there = Place {
+        let there = PeerEnd {
             node: client_number(scenario, client),
             peer: Peer::Broker(own.cluster),
         };
@@ -227,7 +227,7 @@ impl NodeRings {
         let topic = topic_of(scenario, client);
         let mut ends = no_ends(alloc);
         for cluster in 0..cluster_count(scenario) {
-            let there = Place {
+            let there = PeerEnd {
                 node: broker_number(scenario, topic, cluster),
                 peer: Peer::Client(client),
             };
@@ -243,7 +243,7 @@ impl NodeRings {
         alloc: Global,
         node: usize,
         cluster: u32,
-        there: Place,
+        there: PeerEnd,
         ends: &mut EndTable<RingEnd>,
     ) -> Result<(), Memory>
         requires here { node < self.old }
@@ -252,7 +252,7 @@ impl NodeRings {
         ensures linked { OnOk result (HasSites (cluster + 1) ends.new.rows.items) }
         ensures nodes { self.new ≡ self.old }
     {
-        let here = Place {
+        let here = PeerEnd {
             node,
             peer: Peer::Broker(cluster),
         };
@@ -265,8 +265,8 @@ impl NodeRings {
     fn link(
         &mut self,
         alloc: Global,
-        here: Place,
-        there: Place,
+        here: PeerEnd,
+        there: PeerEnd,
         ends: &mut EndTable<RingEnd>,
     ) -> Result<(), Memory>
         requires here { here.node < self.old }
@@ -285,8 +285,8 @@ impl NodeRings {
     fn ends_to(
         &mut self,
         alloc: Global,
-        here: Place,
-        there: Place,
+        here: PeerEnd,
+        there: PeerEnd,
     ) -> Result<EndRow<RingEnd>, Memory>
         requires here { here.node < self.old }
         requires there { there.node < self.old }

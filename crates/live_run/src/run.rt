@@ -3,20 +3,20 @@ ghost use Rattle.std.specs.Prelude.{◌≡◌, ◌<◌, length, IfOk, vec_len};
 ghost use Rattle.std.specs.Arc.{arc_value};
 ghost use Rattle.geo_base.specs.Nodes.{node_count};
 
-use crate::books::{LockedBook, close, open};
 use crate::crew::Crew;
+use crate::logs::{LockedLog, close, open};
 use actors::roles;
 use geo_base::Memory;
 use geo_io::Gate;
 use link_rings::RingEnd;
-use node_book::BookList;
+use node_log::NodeLogs;
 use script_text::Scenario;
 use std::alloc::Global;
 use std::sync::{Arc, Mutex, Wait};
 use std::thread;
 use std::thread::Threads;
 
-/// The books of a scenario's nodes after so many turns of each worker, in the order of the nodes' numbers. A worker's actors are those
+/// The logs of a scenario's nodes after so many turns of each worker, in the order of the nodes' numbers. A worker's actors are those
 /// whose numbers are the worker's, modulo the number of workers, in rotation; before each turn it passes the gate. The turns of a
 /// worker whose thread can't be started are done by the caller, and every thread has ended when the call returns. An `Err` is want of
 /// memory, which ends the turns of the worker that met it.
@@ -27,18 +27,18 @@ pub fn live<R: Threads + Wait + Sync, G: Gate + Sync>(
     workers: u32,
     turns: u64,
     gate: &G,
-) -> Result<BookList<RingEnd>, Memory>
+) -> Result<NodeLogs<RingEnd>, Memory>
     requires { 0 < workers }
-    ensures { IfOk result (λ books. length books ≡ node_count (arc_value scenario.now).setup) }
+    ensures { IfOk result (λ logs. length logs ≡ node_count (arc_value scenario.now).setup) }
 {
     let crews = form_crews(alloc, scenario, workers)?;
     let locked = open(alloc, scenario)?;
     run(rt, locked.as_slice(), crews.as_slice(), turns, gate);
-    let books = close(alloc, locked)?;
+    let logs = close(alloc, locked)?;
     if is_any_short(crews) {
         return Err(Memory);
     }
-    Ok(books)
+    Ok(logs)
 }
 
 /// The crew of each worker, which its thread alone takes. An `Err` is want of memory.
@@ -58,7 +58,7 @@ fn form_crews(alloc: Global, scenario: &Scenario, workers: u32) -> Result<Vec<Mu
 /// started.
 fn run<R: Threads + Wait + Sync, G: Gate + Sync>(
     rt: &R,
-    books: &[LockedBook],
+    logs: &[LockedLog],
     crews: &[Mutex<Crew>],
     turns: u64,
     gate: &G,
@@ -66,20 +66,20 @@ fn run<R: Threads + Wait + Sync, G: Gate + Sync>(
     thread::scope(thread::scope_env(), rt, |scope| {
         for worker in 1..crews.len() {
             if scope
-                .spawn(move || work(rt, books, crews, worker, turns, gate))
+                .spawn(move || work(rt, logs, crews, worker, turns, gate))
                 .is_err()
             {
-                work(rt, books, crews, worker, turns, gate);
+                work(rt, logs, crews, worker, turns, gate);
             }
         }
-        work(rt, books, crews, 0, turns, gate);
+        work(rt, logs, crews, 0, turns, gate);
     });
 }
 
 /// One worker's turns.
 fn work<R: Wait, G: Gate>(
     rt: &R,
-    books: &[LockedBook],
+    logs: &[LockedLog],
     crews: &[Mutex<Crew>],
     worker: usize,
     turns: u64,
@@ -87,7 +87,7 @@ fn work<R: Wait, G: Gate>(
 ) {
     if let Some(cell) = crews.get(worker) {
         let mut crew = cell.lock(rt);
-        crew.run(rt, books, turns, gate);
+        crew.run(rt, logs, turns, gate);
     }
 }
 

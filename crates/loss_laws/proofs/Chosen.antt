@@ -51,7 +51,7 @@ both_step : (q : Entry → Bool) (e : Entry) (l m : List Entry) (b : Bool) → l
 both_step q e l m true same = ap (λ (k : List Entry). if q e then e ∷ k else k) same
 both_step q e l m false same = same
 
--- two tests, one behind the other
+-- two tests, one after the other
 pub filter_both : (a q : Entry → Bool) (es : List Entry) → filter (λ e. a e && q e) es ≡ filter q (filter a es)
 filter_both a q [] = refl
 filter_both a q (e ∷ es) = both_step q e (filter (λ f. a f && q f) es) (filter a es) (a e) (filter_both a q es)

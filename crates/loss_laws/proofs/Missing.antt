@@ -1,4 +1,4 @@
--- What is missing is an end: of what x has for y, the messages behind as much of it as stands at y. Nothing of the first part is missing,
+-- What is missing is an end: of what x has for y, the messages after as much of it as stands at y. Nothing of the first part is missing,
 -- since it stands there; and all of the rest is, since no identity stands twice at x.
 use Rattle.std.proofs.Common.{◌≡◌, ℕ, ◌+◌, ◌<◌, Bool, true, false, List, ◌++◌, length, refl, sym, ap, subst, ◌∙◌, arith, ◌==◌}
 use Rattle.std.specs.Prelude.{Some, ◌&&◌, not, filter, slice_get}

@@ -13,7 +13,7 @@ use Rattle.geo_base.specs.Safe.{IsEntry}
 use Rattle.geo_base.specs.Setup.{Setup}
 use Rattle.geo_base.specs.Subscription.{Subscription}
 use Rattle.geo_base.specs.World.{World, topic_at}
-use Rattle.failover_laws.specs.PassedOver.{HasPassed, MayPass, writes_to_pass}
+use Rattle.failover_laws.specs.UpdatedTo.{HasUpdatedTo, MayUpdateTo, writes_to_update}
 use Rattle.failover_laws.specs.Since.{Since}
 use Rattle.loss_laws.specs.Lost.{again, alone, comes_again, differ, is_own_message, lost, missing, stands}
 
@@ -27,23 +27,23 @@ MissingIsEnd s w = (t x y : ℕ) → ArePair s x y → (rest : List Entry)
 abbrev pub LawMissing : Type 0
 LawMissing = (s : Setup) → Always s (λ w settled. MissingIsEnd s w)
 
--- ---- again: of what subscription v of x would be given again at y, each message that is meant for x stands there behind index j
+-- ---- again: of what subscription v of x would be given again at y, each message that is meant for x stands there after index j
 
 abbrev pub AgainBehind : Setup → World → ℕ → ℕ → ℕ → Subscription → ℕ → Type 0
 AgainBehind s w t x y v j = (k : ℕ) (e : Entry) → slice_get (again (topic_at s w t x) v (topic_at s w t y)) k ≡ Some e → meant_for x e ≡ true
     → (i : ℕ) × (j < i) × IsEntry (topic_at s w t y) i e
 
 -- each message that comes again stands there, lacked there and acknowledged at x. Where the subscription has passed over an index at y,
--- those meant for x stand behind it; so it is behind an event that acts on an update of x, which names that index, and behind a stop
--- inside it behind the write of the cursor, as long as the subscription is neither deleted nor sought there
+-- those meant for x stand after it; so it is after an event that acts on an update of x, which names that index, and after a stop
+-- inside it after the write of the cursor, as long as the subscription is neither deleted nor sought there
 pub record LawComesAgain : Type 0 where
   pub listed : (s : Setup) (w : World) (t x y k : ℕ) (v : Subscription) (e : Entry) → let b = topic_at s w t x in let c = topic_at s w t y in
       slice_get (again b v c) k ≡ Some e → (i : ℕ) × IsEntry c i e × (comes_again b v c i e ≡ true)
-  pub passed : (s : Setup) (w : World) (t x y j : ℕ) (v : Subscription) → HasPassed (topic_at s w t y) v.name x j → AgainBehind s w t x y v j
-  pub since : (s : Setup) (u w : World) (t x y j : ℕ) (v : Subscription) (remote : List ClusterPosition) → MayPass s u t y x v.name remote j
+  pub passed : (s : Setup) (w : World) (t x y j : ℕ) (v : Subscription) → HasUpdatedTo (topic_at s w t y) v.name x j → AgainBehind s w t x y v j
+  pub since : (s : Setup) (u w : World) (t x y j : ℕ) (v : Subscription) (remote : List ClusterPosition) → MayUpdateTo s u t y x v.name remote j
       → Since s t y v.name (happens s u (event.Read t y x)) w → AgainBehind s w t x y v j
-  pub halted : (s : Setup) (u w : World) (t x y j k : ℕ) (v : Subscription) (remote : List ClusterPosition) → MayPass s u t y x v.name remote j
-      → writes_to_pass (sub_named (topic_at s u t y).subs v.name) ≤ k
+  pub halted : (s : Setup) (u w : World) (t x y j k : ℕ) (v : Subscription) (remote : List ClusterPosition) → MayUpdateTo s u t y x v.name remote j
+      → writes_to_update (sub_named (topic_at s u t y).subs v.name) ≤ k
       → Since s t y v.name (halts_planned s u k (planned s u (event.Read t y x))) w → AgainBehind s w t x y v j
 
 -- ---- lost, alone, differ: if x never comes back

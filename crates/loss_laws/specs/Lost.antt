@@ -68,7 +68,7 @@ again b v c = chosen (comes_again b v c) 0 c.entries
 abbrev pub backlog_at : Broker → List ℕ → ℕ
 backlog_at c n = backlog_from (cursor_at c n) 0 (map (λ (e : Entry). is_data e.content) c.entries)
 
--- ---- untold: how many snapshots of x a subscription's mark-delete has passed there, behind the last one that an update of x tells
+-- ---- untold: how many snapshots of x a subscription's mark-delete has passed there, after the last one that an update of x tells
 
 -- the positions of the other clusters that an update of x for subscription n names
 abbrev pub update_in : ℕ → List ℕ → Entry → Content → Option (List ClusterPosition)
@@ -100,7 +100,7 @@ abbrev pub is_told : Option (List ClusterPosition) → List ClusterPosition → 
 is_told None ps = false
 is_told (Some qs) ps = same_pairs qs ps
 
--- one more entry, n having been counted: the count begins anew behind a snapshot that is told
+-- one more entry, n having been counted: the count begins anew after a snapshot that is told
 abbrev pub counted : Option (List ClusterPosition) → ℕ → Option (List ClusterPosition) → ℕ
 counted told n None = n
 counted told n (Some ps) = if is_told told ps then 0 else n + 1

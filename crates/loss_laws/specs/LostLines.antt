@@ -1,5 +1,5 @@
 -- What `lost` prints of a world (own), line by line; docs/LOST.md says what each line means. Numbers come first, the messages that they
--- count behind them, each by its identity in a line that begins with two spaces.
+-- count after them, each by its identity in a line that begins with two spaces.
 use Rattle.std.specs.Prelude.{ℕ, ◌+◌, ◌==◌, Bool, if◌then◌else◌, List, [], ◌∷◌, ◌++◌, length, map, slice_index_or, codes, decimal}
 use Rattle.geo_base.specs.declared.entry.Entry.{Entry}
 use Rattle.geo_base.specs.Broker.{Broker}

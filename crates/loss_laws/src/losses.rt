@@ -9,7 +9,7 @@ pub fn law_missing()
 {}
 
 /// A message that would be given again at a cluster stands there, lacked there by the subscription and acknowledged at the one that goes;
-/// and where it is meant for the one that goes, it stands behind each index that an update of that one named which was acted on there,
+/// and where it is meant for the one that goes, it stands after each index that an update of that one named which was acted on there,
 /// until the subscription is deleted or sought there. It holds for every setup and every world, whether a run comes to it or not.
 pub fn law_comes_again()
     ensures { LawComesAgain }

@@ -1,4 +1,4 @@
-//! Short traces behind a script that is read already. Longer ones stand in the folder `answers/` of the repository.
+//! Short traces after a script that is read already. Longer ones stand in the folder `answers/` of the repository.
 use audit::{AuditFault, Strictness, audit};
 use script_text::{Scenario, read_script};
 use std::alloc::{AllocError, Global};
@@ -44,7 +44,7 @@ const GAPS: &[(&str, u64, u64)] = &[
         2,
         3,
     ),
-    // the first one came, and of the two behind it the second
+    // the first one came, and of the two after it the second
     (
         "trace\nevent 1\nappend t a 0:0 a p 0 * data - m0\nappend t a 0:1 a p 1 * data - m1\nappend t a 0:2 a p 2 * data - m2\nevent 2\nappend t b 0:0 a p 0 * data - m0\nevent 3\nappend t b 0:1 a p 2 * data - m2\n",
         3,

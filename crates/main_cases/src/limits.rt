@@ -1,4 +1,4 @@
-//! Inputs and runs at the limits of the program, and behind them.
+//! Inputs and runs at the limits of the program, and after them.
 use crate::asked::{AT_ONCE, Asked, bytes_of, ends_with};
 use geo_top::Status;
 use std::alloc::Global;
@@ -10,7 +10,7 @@ const DECLARATIONS: &[u8] =
 /// An event that is idle where nothing came.
 const IDLE: &[u8] = b"get p\n";
 
-/// So many copies of a line behind a text.
+/// So many copies of a line after a text.
 fn with_lines(alloc: Global, text: &[u8], line: &[u8], count: u64) -> Result<Vec<u8>, Fail> {
     let mut script = text.to_vec(alloc)?;
     for copy in 0..count {
@@ -80,7 +80,7 @@ fn events_are_too_many(rt: HostRuntime) -> Result<(), Fail> {
     Ok(())
 }
 
-/// Whether a text with so many idle events behind it passes the limit of events.
+/// Whether a text with so many idle events after it passes the limit of events.
 fn is_too_much(alloc: Global, word: &str, text: &[u8], idle: u64) -> Result<bool, Fail> {
     let input = with_lines(alloc, text, IDLE, idle)?;
     is_answer(
@@ -97,7 +97,7 @@ fn resumes_too_much(alloc: Global) -> Result<bool, Fail> {
     is_too_much(alloc, "resume", file.as_slice(), 2_000_000)
 }
 
-/// Declarations, behind which a client gets nothing.
+/// Declarations, after which a client gets nothing.
 const DECLARED: &[u8] = b"geo 1\ncluster a\ncluster b\ntopic t\nclient p t a\n";
 
 /// A message that goes to another cluster.

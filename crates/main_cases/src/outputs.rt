@@ -1,4 +1,4 @@
-//! What is written of books that were made by hand.
+//! What is written of logs that were made by hand.
 ghost use Rattle.std.specs.Prelude.{◌≡◌};
 ghost use Rattle.std.specs.Arc.{arc_value};
 ghost use Rattle.geo_base.specs.Nodes.{node_count};
@@ -8,7 +8,7 @@ use geo_base::{Blob, Event, Memory};
 use link_rings::RingEnd;
 use live_output::{all_events_output, live_output};
 use live_run::NodeRings;
-use node_book::{BookList, NodeBook};
+use node_log::{NodeLog, NodeLogs};
 use script_text::{Scenario, read_script};
 use std::alloc::Global;
 use std::sync::Arc;
@@ -27,13 +27,13 @@ const OUTPUT: &[u8] =
     b"events 7 idle 0 rounds 1\ntopic t at a\nsender b session 1 open mark 0\ntopic t at b\nsender a session 1 open mark 0\n\
 client p at a lines 0/2 receipts 0 duplicates 0 errors 0\nschedule\nreconnect p\nsettle\n";
 
-/// Adds the book of the first topic's broker at a cluster; want of memory where there is none.
+/// Adds the log of the first topic's broker at a cluster; want of memory where there is none.
 fn add_broker(
     alloc: Global,
     scenario: &Arc<Scenario, Global>,
     cluster: u32,
     rings: &mut NodeRings,
-    books: &mut BookList<RingEnd>,
+    logs: &mut NodeLogs<RingEnd>,
 ) -> Result<(), Memory>
     requires { rings.old ≡ node_count (arc_value scenario.now).setup }
     ensures { rings.new ≡ rings.old }
@@ -43,15 +43,15 @@ fn add_broker(
     }
     let ends = rings.broker(alloc, scenario, 0, cluster)?;
     let shared = Arc::try_clone(scenario)?;
-    books.push(NodeBook::broker(alloc, shared, 0, cluster, ends)?)
+    logs.push(NodeLog::broker(alloc, shared, 0, cluster, ends)?)
 }
 
-/// Adds the book of the first client, which has connected; want of memory where there is none.
+/// Adds the log of the first client, which has connected; want of memory where there is none.
 fn add_client(
     alloc: Global,
     scenario: &Arc<Scenario, Global>,
     rings: &mut NodeRings,
-    books: &mut BookList<RingEnd>,
+    logs: &mut NodeLogs<RingEnd>,
 ) -> Result<(), Memory>
     requires { rings.old ≡ node_count (arc_value scenario.now).setup }
 {
@@ -60,33 +60,33 @@ fn add_client(
     }
     let ends = rings.client(alloc, scenario, 0)?;
     let shared = Arc::try_clone(scenario)?;
-    books.push(connected(alloc, NodeBook::client(alloc, shared, 0, ends)?)?)
+    logs.push(connected(alloc, NodeLog::client(alloc, shared, 0, ends)?)?)
 }
 
-fn connected(alloc: Global, book: NodeBook<RingEnd>) -> Result<NodeBook<RingEnd>, Memory> {
-    let mut book = book;
-    match book.act(alloc, &Event::Reconnect { client: 0 }) {
-        Ok(true) => Ok(book),
+fn connected(alloc: Global, log: NodeLog<RingEnd>) -> Result<NodeLog<RingEnd>, Memory> {
+    let mut log = log;
+    match log.act(alloc, &Event::Reconnect { client: 0 }) {
+        Ok(true) => Ok(log),
         _ => {
-            book.let_go();
+            log.let_go();
             Err(Memory)
         }
     }
 }
 
-/// The books of three new nodes, of which the client has connected.
-fn three_books(
+/// The logs of three new nodes, of which the client has connected.
+fn three_logs(
     alloc: Global,
     scenario: &Arc<Scenario, Global>,
-) -> Result<BookList<RingEnd>, Memory> {
+) -> Result<NodeLogs<RingEnd>, Memory> {
     let mut rings = NodeRings::new(alloc, scenario)?;
-    let mut books = BookList::new(alloc);
-    let added = add_three(alloc, scenario, &mut rings, &mut books);
+    let mut logs = NodeLogs::new(alloc);
+    let added = add_three(alloc, scenario, &mut rings, &mut logs);
     drop(rings);
     match added {
-        Ok(()) => Ok(books),
+        Ok(()) => Ok(logs),
         Err(fault) => {
-            books.let_go();
+            logs.let_go();
             Err(fault)
         }
     }
@@ -96,48 +96,48 @@ fn add_three(
     alloc: Global,
     scenario: &Arc<Scenario, Global>,
     rings: &mut NodeRings,
-    books: &mut BookList<RingEnd>,
+    logs: &mut NodeLogs<RingEnd>,
 ) -> Result<(), Memory>
     requires { rings.old ≡ node_count (arc_value scenario.now).setup }
 {
-    add_broker(alloc, scenario, 0, rings, books)?;
-    add_broker(alloc, scenario, 1, rings, books)?;
-    add_client(alloc, scenario, rings, books)
+    add_broker(alloc, scenario, 0, rings, logs)?;
+    add_broker(alloc, scenario, 1, rings, logs)?;
+    add_client(alloc, scenario, rings, logs)
 }
 
-/// What is written of books; want of memory where they are not as many as the scenario has nodes.
+/// What is written of logs; want of memory where they are not as many as the scenario has nodes.
 fn written(
     alloc: Global,
     scenario: &Arc<Scenario>,
-    books: &BookList<RingEnd>,
+    logs: &NodeLogs<RingEnd>,
 ) -> Result<Blob, Memory> {
-    if books.as_slice().len() != node_count(scenario) as usize {
+    if logs.as_slice().len() != node_count(scenario) as usize {
         return Err(Memory);
     }
-    live_output(alloc, scenario, books)
+    live_output(alloc, scenario, logs)
 }
 
-/// What is written of three books that keep a configuration, of which none is asked.
+/// What is written of three logs that keep a configuration, of which none is asked.
 fn all_written(
     alloc: Global,
     kept: &Arc<Scenario>,
     scenario: &Arc<Scenario>,
 ) -> Result<Blob, Memory> {
-    let books = three_books(alloc, kept)?;
-    let output = if books.as_slice().len() == node_count(scenario) as usize {
-        all_events_output(alloc, scenario, &books)
+    let logs = three_logs(alloc, kept)?;
+    let output = if logs.as_slice().len() == node_count(scenario) as usize {
+        all_events_output(alloc, scenario, &logs)
     } else {
         Err(Memory)
     };
-    books.let_go();
+    logs.let_go();
     output
 }
 
-/// What is written of the three books.
+/// What is written of the three logs.
 fn written_of_three(alloc: Global, scenario: &Arc<Scenario>) -> Result<Blob, Memory> {
-    let books = three_books(alloc, scenario)?;
-    let output = written(alloc, scenario, &books);
-    books.let_go();
+    let logs = three_logs(alloc, scenario)?;
+    let output = written(alloc, scenario, &logs);
+    logs.let_go();
     output
 }
 

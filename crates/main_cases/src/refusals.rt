@@ -3,7 +3,7 @@ use crate::asked::USAGE;
 use crate::program::is_answered;
 use std::test::Fail;
 
-/// A script with a schedule is refused at its first step, by rule 20; but where a line breaks another rule, also one behind that
+/// A script with a schedule is refused at its first step, by rule 20; but where a line breaks another rule, also one after that
 /// step, by that one. A second line of chances is refused under each command that reads a script.
 #[test]
 fn scripts_with_a_schedule_are_refused(rt: HostRuntime) -> Result<(), Fail> {

@@ -24,7 +24,7 @@ do k sub s shared earliest replicated\ndo k flow 20\ndo k ackall\ndo k move b\nd
 /// The line between a report and its schedule.
 const LINE: &[u8] = b"schedule\n";
 
-/// What stands before the line between, and what behind it.
+/// What stands before the line between, and what after it.
 fn parts(output: &[u8]) -> Option<(&[u8], &[u8])> {
     for at in 0..output.len() {
         if let Some(schedule) = output[at..].strip_prefix(LINE) {
@@ -45,10 +45,10 @@ fn count_of(text: &[u8], line: &[u8]) -> u64 {
     count
 }
 
-/// With one worker the books are determined by the script, and what is printed is what they make: both clusters have the three
+/// With one worker the logs are determined by the script, and what is printed is what they make: both clusters have the three
 /// messages, the client all receipts, and the last line settles.
 #[test]
-fn one_worker_prints_what_its_books_make(rt: HostRuntime) -> Result<(), Fail> {
+fn one_worker_prints_what_its_logs_make(rt: HostRuntime) -> Result<(), Fail> {
     assert!(rt; prints_what_is_made(&rt, rt.alloc())?);
     Ok(())
 }
@@ -59,7 +59,7 @@ fn prints_what_is_made<R: Threads + Wait + Sync>(rt: &R, alloc: Global) -> Resul
     Ok(printed.as_slice() == made.as_slice() && tells_the_story(printed.as_slice()))
 }
 
-/// What the books of one worker make.
+/// What the logs of one worker make.
 fn made<R: Threads + Wait + Sync>(rt: &R, alloc: Global) -> Result<Blob, Fail> {
     let scenario = Arc::new(alloc, read_script(alloc, STORY)?)?;
     let output = made_of(rt, alloc, &scenario);
@@ -72,9 +72,9 @@ fn made_of<R: Threads + Wait + Sync>(
     alloc: Global,
     scenario: &Arc<Scenario>,
 ) -> Result<Blob, Memory> {
-    let books = live(rt, alloc, scenario, 1, 2000, &OpenGate)?;
-    let output = live_output(alloc, scenario, &books);
-    books.let_go();
+    let logs = live(rt, alloc, scenario, 1, 2000, &OpenGate)?;
+    let output = live_output(alloc, scenario, &logs);
+    logs.let_go();
     output
 }
 
@@ -96,7 +96,7 @@ fn tells_the_story(output: &[u8]) -> bool {
         && output.ends_with(b"\nsettle\n")
 }
 
-/// The script with the printed schedule behind it makes a run with the printed report.
+/// The script with the printed schedule after it makes a run with the printed report.
 fn replayed<R: Threads + Wait + Sync>(
     rt: &R,
     alloc: Global,
@@ -111,7 +111,7 @@ fn replayed<R: Threads + Wait + Sync>(
     Ok(again.as_slice() == report)
 }
 
-/// The report of a script with a schedule behind it.
+/// The report of a script with a schedule after it.
 fn run_behind<R: Threads + Wait + Sync>(
     rt: &R,
     alloc: Global,

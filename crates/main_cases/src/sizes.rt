@@ -50,7 +50,7 @@ fn many_names(alloc: Global) -> Result<String, Fail> {
     Ok(script)
 }
 
-/// A text that is longer than sixteen bits count is appended behind its length.
+/// A text that is longer than sixteen bits count is appended after its length.
 #[test]
 fn texts_have_more_than_sixteen_bits(rt: HostRuntime) -> Result<(), Fail> {
     assert_eq!(rt; appended(rt.alloc())?, MANY_BYTES + 4);

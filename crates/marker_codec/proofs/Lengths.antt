@@ -5,7 +5,7 @@ use Rattle.geo_base.specs.declared.position.Position.{Position}
 use Rattle.geo_base.specs.declared.marker.ClusterPosition.{ClusterPosition}
 use Rattle.geo_base.specs.declared.marker.Marker.{Marker as MachineMarker}
 use Rattle.geo_base.specs.declared.marker.Marker.TheVariants as machine
-use Rattle.geo_base.specs.Sizes.{varint_groups, varint_size, tag_size, bytes_field as bytes_size, number_field, position_size, cluster_position_size, cluster_positions, marker_size, marker_type, place_name}
+use Rattle.geo_base.specs.Sizes.{varint_groups, varint_size, tag_size, bytes_field as bytes_size, number_field, position_size, cluster_position_size, cluster_positions, marker_size, marker_type, cluster_ref_name}
 use Rattle.pb_fields.specs.declared.field.Field.{Field}
 use Rattle.pb_fields.specs.Canonical.{groups, varint, field_text, text}
 use Rattle.pb_fields.specs.Field.{varint_field, bytes_field}
@@ -56,8 +56,8 @@ sizes_position p =
 
 sizes_cluster : (names : List (List ℕ)) (r : ClusterPosition) → length (text (cluster_fields (named_cluster names r))) ≡ cluster_position_size names r
 sizes_cluster names r =
-    two (bytes_field 1 (place_name names r.cluster)) (bytes_field 2 (text (position_fields r.position)))
-    ∙ rw (bytes_1 (place_name names r.cluster), bytes_2 (text (position_fields r.position)), sizes_position r.position) refl
+    two (bytes_field 1 (cluster_ref_name names r.cluster)) (bytes_field 2 (text (position_fields r.position)))
+    ∙ rw (bytes_1 (cluster_ref_name names r.cluster), bytes_2 (text (position_fields r.position)), sizes_position r.position) refl
 
 sizes_clusters : (names : List (List ℕ)) (n : ℕ) (rs : List ClusterPosition) → length (varint (8 * n + 2)) ≡ tag_size n
     → length (text (clusters_fields n (map (λ r. named_cluster names r) rs))) ≡ cluster_positions names n rs
@@ -69,7 +69,7 @@ sizes_clusters names n (r ∷ rs) tag =
 -- ---- markers
 
 pub sizes : (names : List (List ℕ)) (m : MachineMarker) → length (text (canonical_fields (named_marker names m))) ≡ marker_size names m
-sizes names (machine.Request id source) = two (bytes_field 1 id) (bytes_field 2 (place_name names source)) ∙ rw (bytes_1 id, bytes_2 (place_name names source)) refl
+sizes names (machine.Request id source) = two (bytes_field 1 id) (bytes_field 2 (cluster_ref_name names source)) ∙ rw (bytes_1 id, bytes_2 (cluster_ref_name names source)) refl
 sizes names (machine.Response id answer) =
     two (bytes_field 1 id) (bytes_field 2 (text (cluster_fields (named_cluster names answer))))
     ∙ rw (bytes_1 id, bytes_2 (text (cluster_fields (named_cluster names answer))), sizes_cluster names answer) refl

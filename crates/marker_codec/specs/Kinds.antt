@@ -1,4 +1,4 @@
--- The kinds of markers (own: this project's profile), the fields of each, and what these hold.
+-- The kinds of markers (PulsarMarkers.proto, as known and not looked up), the fields of each, and what these hold.
 use Rattle.std.specs.Prelude.{◌≡◌, ◌≢◌, ℕ, List}
 use Rattle.pb_fields.specs.declared.message.Row.{Row}
 use Rattle.pb_fields.specs.declared.message.MessageFault.{MessageFault}

@@ -27,7 +27,7 @@ pub enum MarkerKind {
 }
 
 impl MarkerKind {
-    /// The number that the metadata of a marker's entry names (own: this project's profile).
+    /// The number that the metadata of a marker's entry names (PulsarMarkers.proto's MarkerType, as known and not looked up).
     pub fn number(self) -> u64
         ensures { result ≡ kind_number self }
     {

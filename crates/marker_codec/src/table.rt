@@ -9,16 +9,16 @@ ghost use Rattle.marker_codec.specs.Table as field;
 use pb_fields::embedded::{OfTable, Unread};
 use pb_fields::message::{Form, Row};
 
-/// The kind of a request (own: this project's profile fixes the kinds).
+/// The kind of a request (this and the next three: PulsarMarkers.proto's MarkerType, as known and not looked up).
 pub const REQUEST: u64 = 10;
 
-/// The kind of a response (own).
+/// The kind of a response.
 pub const RESPONSE: u64 = 11;
 
-/// The kind of a snapshot (own).
+/// The kind of a snapshot.
 pub const SNAPSHOT: u64 = 12;
 
-/// The kind of an update (own).
+/// The kind of an update.
 pub const UPDATE: u64 = 13;
 
 /// The name of a snapshot, in a request, a response and a snapshot.

@@ -1,10 +1,10 @@
--- The events of books are events that a script may schedule.
+-- The events of logs are events that a script may schedule.
 use Rattle.std.proofs.Common.{◌≡◌, ℕ, zero, suc, ◌+◌, ◌<◌, ◌^◌, ◌==◌, Bool, true, false, List, [], ◌∷◌, ◌++◌, length, refl, sym, ap, subst, ◌∙◌, nat_lt, if◌then◌else◌, arith}
 use Rattle.std.proofs.lemmas.Bool.{eq-eqb, eqb-true, false≢true, lt-ltb, ltb-true, true≢false}
 use Rattle.std.proofs.lemmas.List.{length-map}
 use Rattle.std.proofs.lemmas.Option.{none-some, same_Some, slice_get_within}
 use Rattle.std.proofs.lemmas.List.Elements.{All-from_recursion}
-use Rattle.std.specs.Prelude.{All, Err, IfOk, Ok, Option, Result, Some, None, is_some, not, slice_get, ◌&&◌}
+use Rattle.std.specs.Prelude.{All, Err, IfOk, Ok, Option, Result, Some, None, is_some, not, slice_get}
 use Rattle.std.specs.List.{AllByRecursion}
 use Rattle.geo_base.specs.declared.event.Event.{Event}
 use Rattle.geo_base.specs.declared.event.Event.TheVariants as event
@@ -25,11 +25,11 @@ use Rattle.geo_base.specs.Reading.{read}
 use Rattle.geo_base.specs.Scripted.{IsScripted}
 use Rattle.geo_base.specs.Setup.{Setup}
 use Rattle.geo_base.specs.World.{site}
-use Rattle.frame_laws.specs.Books.{StandsAs}
+use Rattle.frame_laws.specs.Logs.{StandsAs}
 use Rattle.script_text.specs.Script.{Script}
 use Rattle.world_laws.proofs.Merges.MergeOrder.{Rises, rises}
 use Rattle.world_laws.proofs.Walks.Walk.{left, on_if, right}
-use Rattle.merge_history.specs.Books.{AreBooks, AreKept, AreOwn, BookView, Counts}
+use Rattle.merge_history.specs.Logs.{AreLogs, AreKept, AreOwn, LogView, Counts}
 use Rattle.merge_history.specs.Ends.{AreStood, layout_of}
 use Rattle.merge_history.specs.Events.{AreMergedEvents, AreOwnEvents, allowed, histories_of, history_in, may_happen, may_schedule, MaySchedule}
 use Rattle.merge_history.specs.Kept.{Kept, kept_by}
@@ -37,6 +37,7 @@ use Rattle.merge_history.specs.Peers.{LayoutView}
 use Rattle.merge_history.proofs.FewNodes.{few_nodes}
 use Rattle.merge_history.proofs.Rising.{alike_all, rise_is}
 use Rattle.merge_history.proofs.Said.{Said, are_stood, said_of}
+use Rattle.geo_base.proofs.Bools.{and_of_both}
 
 -- ---- a subscription has a name
 none_past : {X : Type 0} (xs : List X) (i : ℕ) → slice_get xs i ≡ None → i < length xs → ⊥
@@ -57,10 +58,6 @@ pub has_sub_name : {X : Type 0} (xs : List X) (i : ℕ) (o : Option X) → o ≡
 has_sub_name xs i o is = ap is_some is ∙ has_name xs i
 
 -- ---- the two ends of a link are apart
-
-both : (a b : Bool) → a ≡ true → b ≡ true → (a && b) ≡ true
-both true b h k = k
-both false b h k = absurd (false≢true h)
 
 -- a plan that is not idle is that of another cluster
 of_remote : (b : Bool) (p q : Plan) → q.idle ≡ true → (if b then p else q).idle ≡ false → b ≡ true
@@ -95,23 +92,23 @@ turned x y h = by (y == x) refl
 
 may : (s : Setup) (st : NodeState) (e : Event) (p : Option Packet) → in_range s e ≡ true → (acts s st e p).idle ≡ false
     → is_input s (node_of s e) (takes_from st e) p ≡ true → may_happen s e ≡ true
-may s st (event.Go c) p r enabled input = both (in_range s (event.Go c)) true r refl
-may s st (event.Get c) p r enabled input = both (in_range s (event.Get c)) true r refl
-may s st (event.Reconnect c) p r enabled input = both (in_range s (event.Reconnect c)) true r refl
-may s st (event.Serve x c) p r enabled input = both (in_range s (event.Serve x c)) true r refl
-may s st (event.Drop x c) p r enabled input = both (in_range s (event.Drop x c)) true r refl
-may s st (event.Reset t x y) p r enabled input = both (in_range s (event.Reset t x y)) (not (y == x)) r (reset_apart s st t x y p enabled)
-may s st (event.Read t x y) p r enabled input = both (in_range s (event.Read t x y)) (not (y == x)) r (read_apart s st t x y p enabled)
+may s st (event.Go c) p r enabled input = and_of_both (in_range s (event.Go c)) true r refl
+may s st (event.Get c) p r enabled input = and_of_both (in_range s (event.Get c)) true r refl
+may s st (event.Reconnect c) p r enabled input = and_of_both (in_range s (event.Reconnect c)) true r refl
+may s st (event.Serve x c) p r enabled input = and_of_both (in_range s (event.Serve x c)) true r refl
+may s st (event.Drop x c) p r enabled input = and_of_both (in_range s (event.Drop x c)) true r refl
+may s st (event.Reset t x y) p r enabled input = and_of_both (in_range s (event.Reset t x y)) (not (y == x)) r (reset_apart s st t x y p enabled)
+may s st (event.Read t x y) p r enabled input = and_of_both (in_range s (event.Read t x y)) (not (y == x)) r (read_apart s st t x y p enabled)
 may s st (event.Take t x y f) p r enabled input =
     let there = peer_there s (BrokerNode t y) (peer.Back x) p input in
-    both (in_range s (event.Take t x y f)) (not (y == x)) r (turned x y (right (nat_lt x (length s.clusters)) (not (x == y)) there))
+    and_of_both (in_range s (event.Take t x y f)) (not (y == x)) r (turned x y (right (nat_lt x (length s.clusters)) (not (x == y)) there))
 may s st (event.Receipt t x y f) p r enabled input =
     let there = peer_there s (BrokerNode t x) (peer.Forward y) p input in
-    both (in_range s (event.Receipt t x y f)) (not (y == x)) r (right (nat_lt y (length s.clusters)) (not (y == x)) there)
-may s st (event.Snap t x) p r enabled input = both (in_range s (event.Snap t x)) true r refl
-may s st (event.Offer t x n) p r enabled input = both (in_range s (event.Offer t x n)) true r refl
-may s st (event.Seek t x n to) p r enabled input = both (in_range s (event.Seek t x n to)) true r refl
-may s st (event.Restart t x) p r enabled input = both (in_range s (event.Restart t x)) true r refl
+    and_of_both (in_range s (event.Receipt t x y f)) (not (y == x)) r (right (nat_lt y (length s.clusters)) (not (y == x)) there)
+may s st (event.Snap t x) p r enabled input = and_of_both (in_range s (event.Snap t x)) true r refl
+may s st (event.Offer t x n) p r enabled input = and_of_both (in_range s (event.Offer t x n)) true r refl
+may s st (event.Seek t x n to) p r enabled input = and_of_both (in_range s (event.Seek t x n to)) true r refl
+may s st (event.Restart t x) p r enabled input = and_of_both (in_range s (event.Restart t x)) true r refl
 
 -- ---- all that is recorded
 
@@ -181,24 +178,24 @@ pub each_is : (s : Setup) (es : List Step) (r : Result (List Step) Memory) → I
 each_is s es (Ok fs) is = subst (λ (gs : List Step). All (MaySchedule s) gs) (sym is) (All-from_recursion (MaySchedule s) (allowed s es) (each_allowed s es))
 each_is s es (Err m) is = tt
 
-pub histories_few : (bs : List BookView) (hs : List (List Kept)) (m : ℕ) → hs ≡ histories_of bs → length bs < m → length hs < m
+pub histories_few : (bs : List LogView) (hs : List (List Kept)) (m : ℕ) → hs ≡ histories_of bs → length bs < m → length hs < m
 histories_few bs hs m is lt = subst (λ (k : ℕ). k < m) (sym (ap (λ (ks : List (List Kept)). length ks) is ∙ length-map bs history_in)) lt
 
--- ---- of books none of which is strange all events are there
-history_at : (bs : List BookView) (n : ℕ) (b : BookView) → slice_get bs n ≡ Some b → kept_by (histories_of bs) n ≡ b.history
+-- ---- of logs none of which is strange all events are there
+history_at : (bs : List LogView) (n : ℕ) (b : LogView) → slice_get bs n ≡ Some b → kept_by (histories_of bs) n ≡ b.history
 history_at [] n b at = absurd (none-some b at)
 history_at (c ∷ bs) zero b at = ap history_in (same_Some c b at)
 history_at (c ∷ bs) (suc n) b at = history_at bs n b at
 
-all_count : (c : Script) (bs : List BookView) → AreOwn c bs → AreKept c bs (histories_of bs)
+all_count : (c : Script) (bs : List LogView) → AreOwn c bs → AreKept c bs (histories_of bs)
 all_count c bs own = record {
   size = length-map bs history_in;
   each = λ n b at. Counts.All (own n b at) (history_at bs n b at);
 }
 
-own_events : (c : Script) (bs : List BookView) (st : ℕ → NodeState) (clock : ℕ → ℕ) (es : List Step) → IsScripted c.setup → length bs ≡ node_count c.setup
-    → AreMergedEvents c.setup bs es → AreBooks bs st clock → AreOwn c bs → AreOwnEvents c bs es
-own_events c bs st clock es scripted count merged books own = record {
+own_events : (c : Script) (bs : List LogView) (st : ℕ → NodeState) (clock : ℕ → ℕ) (es : List Step) → IsScripted c.setup → length bs ≡ node_count c.setup
+    → AreMergedEvents c.setup bs es → AreLogs bs st clock → AreOwn c bs → AreOwnEvents c bs es
+own_events c bs st clock es scripted count merged logs own = record {
   kept = kept;
   counts = counts;
   said = said.list;
@@ -217,7 +214,7 @@ own_events c bs st clock es scripted count merged books own = record {
     counts = all_count c bs own
 
     said : Said c bs kept st
-    said = said_of c bs kept st clock counts books
+    said = said_of c bs kept st clock counts logs
 
     stood : AreStood s (layout_of s) kept said.list
     stood = are_stood c bs kept st scripted count counts said
@@ -225,10 +222,10 @@ own_events c bs st clock es scripted count merged books own = record {
     rises_all : (n : ℕ) → Rises (history_of said.list n)
     rises_all n = rises s n (opening_state s n) 0 (history_of said.list n) (stood.replay n)
 
-pub own_if : (c : Script) (bs : List BookView) (st : ℕ → NodeState) (clock : ℕ → ℕ) (r : Result (List Step) Memory) → IsScripted c.setup → length bs ≡ node_count c.setup
-    → IfOk r (AreMergedEvents c.setup bs) → AreBooks bs st clock → AreOwn c bs → IfOk r (AreOwnEvents c bs)
-own_if c bs st clock (Ok es) scripted count merged books own = own_events c bs st clock es scripted count merged books own
-own_if c bs st clock (Err m) scripted count merged books own = tt
+pub own_if : (c : Script) (bs : List LogView) (st : ℕ → NodeState) (clock : ℕ → ℕ) (r : Result (List Step) Memory) → IsScripted c.setup → length bs ≡ node_count c.setup
+    → IfOk r (AreMergedEvents c.setup bs) → AreLogs bs st clock → AreOwn c bs → IfOk r (AreOwnEvents c bs)
+own_if c bs st clock (Ok es) scripted count merged logs own = own_events c bs st clock es scripted count merged logs own
+own_if c bs st clock (Err m) scripted count merged logs own = tt
 
-pub few_books : (s : Setup) (bs : List BookView) → IsScripted s → length bs ≡ node_count s → length bs < 2 ^ 32
+pub few_books : (s : Setup) (bs : List LogView) → IsScripted s → length bs ≡ node_count s → length bs < 2 ^ 32
 few_books s bs scripted count = subst (λ (k : ℕ). k < 2 ^ 32) (sym count) (few_nodes s scripted)

@@ -179,7 +179,7 @@ next_none_below l kept n b (Some c) (Some f) None r is h found none stamped e = 
 next_none_below l kept n b (Some c) (Some f) (Some d) r is h found none stamped (inl e) = λ nothing. absurd (none-some c (sym nothing ∙ e.0))
 next_none_below l kept n b (Some c) (Some f) (Some d) r is h found none stamped (inr e) = λ nothing. absurd (none-some d (sym nothing ∙ e.0))
 
--- behind the last node
+-- after the last node
 pub nothing_past : {X : Type 0} (xs : List (List X)) (n : ℕ) → length xs ≤ n → slice_index_or xs n [] ≡ []
 nothing_past [] n le = refl
 nothing_past (x ∷ xs) zero le = absurd (omega (arith, le))

@@ -11,7 +11,7 @@ use Rattle.geo_base.specs.Nodes.{node_count}
 use Rattle.geo_base.specs.Run.{run}
 use Rattle.geo_base.specs.Scripted.{IsScripted}
 use Rattle.geo_base.specs.Setup.{Setup}
-use Rattle.frame_laws.specs.Books.{StandsAs}
+use Rattle.frame_laws.specs.Logs.{StandsAs}
 use Rattle.world_laws.proofs.Merges.MergeOrder.{Rises, rises}
 use Rattle.world_laws.specs.Recorded.{IsAsRecorded}
 use Rattle.script_text.specs.Script.{Script}
@@ -28,7 +28,7 @@ use Rattle.merge_history.specs.Peers.{LayoutView}
 use Rattle.merge_history.specs.declared.difference.Difference.{Difference}
 use Rattle.merge_history.specs.declared.difference.Difference.TheVariants as difference
 use Rattle.merge_history.specs.declared.merge.Merged.{Merged}
-use Rattle.merge_history.specs.Books.{AreBooks, AreKept, AreOwn, AreTold, BookView, IsFirstFalse, kept_of}
+use Rattle.merge_history.specs.Logs.{AreLogs, AreKept, AreOwn, AreTold, LogView, IsFirstFalse, kept_of}
 use Rattle.merge_history.specs.Merges.{DiffersAs, IsFirstPacket, IsMerged, IsPacket, IsStrangeAt}
 use Rattle.merge_history.specs.Turns.{AlikeAll, Rise}
 use Rattle.merge_history.proofs.Rising.{alike_all, kept_rise, rise_is}
@@ -55,19 +55,19 @@ first_packet l kept d sent taken h sent_is takes = record {
     one_event : {b c : WirePacket} (t : Takes l kept d.node d.found.place d.found.peer b) (u : Takes l kept d.node d.found.place d.found.peer c) → t.event ≡ u.event
     one_event t u = same_Some t.event u.event (sym t.there ∙ u.there)
 
--- no book is strange
-pub fits : (c : Script) (bs : List BookView) (kept : List (List Kept)) (o : Option Difference) → AreOwn c bs → (o ≡ None → (n : ℕ) → AllSent (layout_of c.setup) kept n)
+-- no log is strange
+pub fits : (c : Script) (bs : List LogView) (kept : List (List Kept)) (o : Option Difference) → AreOwn c bs → (o ≡ None → (n : ℕ) → AllSent (layout_of c.setup) kept n)
     → ((d : Difference) → o ≡ Some d → IsPacket (layout_of c.setup) kept d) → DiffersAs c bs kept o
 fits c bs kept None own none some = (own, none refl)
 fits c bs kept (Some (difference.Config n old given)) own none some = absurd (some (difference.Config n old given) refl)
 fits c bs kept (Some (difference.Packet n q index sent taken)) own none some = (own, some (difference.Packet n q index sent taken) refl)
 
-pub strange_differs : (c : Script) (ts : List Bool) (bs : List BookView) (k : ℕ) (kept : List (List Kept)) (d : Difference) → AreTold c bs ts → IsFirstFalse ts k
+pub strange_differs : (c : Script) (ts : List Bool) (bs : List LogView) (k : ℕ) (kept : List (List Kept)) (d : Difference) → AreTold c bs ts → IsFirstFalse ts k
     → IsStrangeAt c bs k d → DiffersAs c bs kept (Some d)
 strange_differs c ts bs k kept (difference.Config n old given) told first is = first_is c ts bs n k old given told first is
 strange_differs c ts bs k kept (difference.Packet n q index sent taken) told first is = absurd is
 
-pub none_strange : (c : Script) (bs : List BookView) (kept : List (List Kept)) (l : LayoutView) (r : Result (Option Difference) Memory) → AreOwn c bs → l ≡ layout_of c.setup
+pub none_strange : (c : Script) (bs : List LogView) (kept : List (List Kept)) (l : LayoutView) (r : Result (Option Difference) Memory) → AreOwn c bs → l ≡ layout_of c.setup
     → (r ≡ Ok None → (n : ℕ) → AllSent l kept n) → IfOk r (λ o. IfSome o (IsPacket l kept)) → IfOk r (DiffersAs c bs kept)
 none_strange c bs kept l (Ok o) own same none some =
     fits c bs kept o own (λ nothing n. subst (λ (l : LayoutView). AllSent l kept n) same (none (ap (λ (o : Option Difference). Ok o) nothing) n))
@@ -75,10 +75,10 @@ none_strange c bs kept l (Ok o) own same none some =
 none_strange c bs kept l (Err m) own same none some = tt
 
 -- ---- all of it
-pub merged : (c : Script) (bs : List BookView) (ts : List Bool) (st : ℕ → NodeState) (clock : ℕ → ℕ) (m : Merged) → IsScripted c.setup → length bs ≡ node_count c.setup
+pub merged : (c : Script) (bs : List LogView) (ts : List Bool) (st : ℕ → NodeState) (clock : ℕ → ℕ) (m : Merged) → IsScripted c.setup → length bs ≡ node_count c.setup
     → AreTold c bs ts → ((said : List (List RecordedEvent)) → AlikeAll (kept_of ts bs) said → ((n : ℕ) → Rise (history_of said n)) → m.steps ≡ steps_of (merge_of said))
-    → (AreRising (kept_of ts bs) → DiffersAs c bs (kept_of ts bs) m.differs) → AreBooks bs st clock → IsMerged c bs st m
-merged c bs ts st clock m scripted count told steps differs books = record {
+    → (AreRising (kept_of ts bs) → DiffersAs c bs (kept_of ts bs) m.differs) → AreLogs bs st clock → IsMerged c bs st m
+merged c bs ts st clock m scripted count told steps differs logs = record {
   kept = kept;
   counts = counts;
   said = said.list;
@@ -104,7 +104,7 @@ merged c bs ts st clock m scripted count told steps differs books = record {
     counts = kept_is c ts bs told
 
     said : Said c bs kept st
-    said = said_of c bs kept st clock counts books
+    said = said_of c bs kept st clock counts logs
 
     stood : AreStood s l kept said.list
     stood = are_stood c bs kept st scripted count counts said

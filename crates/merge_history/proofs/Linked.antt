@@ -18,7 +18,7 @@ use Rattle.world_laws.proofs.Merges.Roles.{opening_role}
 use Rattle.world_laws.proofs.Walks.Walk.{left, right}
 use Rattle.world_laws.specs.ByteHistories.{AreByteHistories, ByteSent, bytes_sent_in, bytes_sent_over, bytes_taken_in, bytes_taken_over}
 use Rattle.wire_ends.specs.declared.packet.WirePacket.{WirePacket}
-use Rattle.frame_laws.specs.Books.{StandsAs}
+use Rattle.frame_laws.specs.Logs.{StandsAs}
 use Rattle.merge_history.specs.declared.packet_layout.Home.{Home}
 use Rattle.merge_history.specs.Kept.{Kept, kept_by}
 use Rattle.merge_history.specs.Differences.{AllSent}
@@ -28,6 +28,7 @@ use Rattle.merge_history.proofs.Agreed.{agreed}
 use Rattle.merge_history.proofs.Ends.{add_same, and_self, one_link, self_and, sent_same, taken_same}
 use Rattle.merge_history.proofs.Known.{IsAtCluster, broker_below, sends_to_peers, takes_from_peers}
 use Rattle.merge_history.proofs.Numbers.{both_true, end_is, link_ends, not_same, other_way}
+use Rattle.geo_base.proofs.Bools.{not_true_false}
 
 -- ---- a link on which a node neither sends nor takes
 none_once : (s : Setup) (k : LinkName) (n : Node) (os : List (ByteSent WirePacket)) → ((p : Peer) → is_peer s n p ≡ true → same_link (link_to s n p) k ≡ false)
@@ -61,12 +62,8 @@ none_taken s k n x st (d ∷ xs) (v ∷ ds) to_apart h =
     ∙ (ap (λ (bs : List WirePacket). bs ++ more) (none_over s k n (peer_taken x d.event) d.taken to_apart h.0.1.1)
     ∙ none_taken s k n (cluster_then x d.sent) (state_after s st v) xs ds to_apart h.1))
 
-not_true : (b : Bool) → not b ≡ true → b ≡ false
-not_true true h = absurd (false≢true h)
-not_true false h = refl
-
 differ : (y x w : ℕ) → (nat_lt y w && not (y == x)) ≡ true → (y == x) ≡ false
-differ y x w h = not_true (y == x) (right (nat_lt y w) (not (y == x)) h)
+differ y x w h = not_true_false (y == x) (right (nat_lt y w) (not (y == x)) h)
 
 no_forward : (s : Setup) (t x : ℕ) (p : Peer) → is_peer s (BrokerNode t x) p ≡ true → same_link (link_to s (BrokerNode t x) p) (Forward (node s t x) x) ≡ false
 no_forward s t x (peer.Forward y) h = self_and (node s t x) (y == x) ∙ differ y x (length s.clusters) h

@@ -14,6 +14,7 @@ use Rattle.merge_history.specs.Kept.{Kept, kept_by, kept_stamp}
 use Rattle.merge_history.specs.Turns.{AlikeAll, AlikeEvents, AreSorted, IsIn, Rise, all_turns, entry_at, event_at, no_event, no_kept, stamp_of, step_at, turns_from}
 use Rattle.merge_history.proofs.Entries.{each_all, each_moved, longer, past, sorted_law}
 use Rattle.merge_history.proofs.Walking.{kept_there}
+use Rattle.geo_base.proofs.Lists.{index_or_any}
 
 -- ---- a turn is one of an event that is kept
 longer_yet : {X : Type 0} (xs : List X) (y : X) (ys : List X) → length xs < length (xs ++ y ∷ ys)
@@ -48,16 +49,11 @@ own_history kept t h is at = kept_there kept t.node h is.0 (sym at)
 pub place_in : (kept : List (List Kept)) (t : Turn) (h : List Kept) → IsIn kept t → h ≡ slice_index_or kept t.node h → t.place < length h
 place_in kept t h is at = subst (λ (xs : List Kept). t.place < length xs) (own_history kept t h is at) is.1
 
-any_default : {X : Type 0} (xs : List X) (i : ℕ) (d e : X) → i < length xs → slice_index_or xs i d ≡ slice_index_or xs i e
-any_default [] i d e lt = absurd (omega (arith, lt))
-any_default (x ∷ xs) zero d e lt = refl
-any_default (x ∷ xs) (suc i) d e lt = any_default xs i d e (omega (arith, lt))
-
 pub event_there : (kept : List (List Kept)) (t : Turn) (h : List Kept) (d : Kept) → IsIn kept t → h ≡ slice_index_or kept t.node h → d ≡ slice_index_or h t.place d
     → d.event ≡ event_at kept t
 event_there kept t h d is at here =
     let own = own_history kept t h is at in
-    ap (λ (x : Kept). x.event) (here ∙ (any_default h t.place d no_kept (place_in kept t h is at) ∙ ap (λ (xs : List Kept). slice_index_or xs t.place no_kept) (sym own)))
+    ap (λ (x : Kept). x.event) (here ∙ (index_or_any h t.place d no_kept (place_in kept t h is at) ∙ ap (λ (xs : List Kept). slice_index_or xs t.place no_kept) (sym own)))
 
 -- ---- histories of bytes and of values with the same events and stamps
 same_turns : (n i : ℕ) (xs : List Kept) (ds : List RecordedEvent) → AlikeEvents xs ds → turns_from kept_stamp n i xs ≡ turns_from stamp_of n i ds
@@ -76,19 +72,19 @@ same_all n (xs ∷ kept) (ds ∷ hs) h =
     ap (λ (ts : List Turn). ts ++ all_turns kept_stamp (n + 1) kept) (same_turns n 0 xs ds h.0)
     ∙ ap (λ (ts : List Turn). turns_from stamp_of n 0 ds ++ ts) (same_all (n + 1) kept hs h.1)
 
-same_place : (xs : List Kept) (ds : List RecordedEvent) (i : ℕ) → AlikeEvents xs ds → (slice_index_or xs i no_kept).event ≡ (slice_index_or ds i no_event).event
-same_place [] [] i h = refl
-same_place [] (d ∷ ds) i h = absurd h
-same_place (x ∷ xs) [] i h = absurd h
-same_place (x ∷ xs) (d ∷ ds) zero h = h.0.0
-same_place (x ∷ xs) (d ∷ ds) (suc i) h = same_place xs ds i h.1
+same_cluster_ref : (xs : List Kept) (ds : List RecordedEvent) (i : ℕ) → AlikeEvents xs ds → (slice_index_or xs i no_kept).event ≡ (slice_index_or ds i no_event).event
+same_cluster_ref [] [] i h = refl
+same_cluster_ref [] (d ∷ ds) i h = absurd h
+same_cluster_ref (x ∷ xs) [] i h = absurd h
+same_cluster_ref (x ∷ xs) (d ∷ ds) zero h = h.0.0
+same_cluster_ref (x ∷ xs) (d ∷ ds) (suc i) h = same_cluster_ref xs ds i h.1
 
 same_node : (kept : List (List Kept)) (hs : List (List RecordedEvent)) (n i : ℕ) → AlikeAll kept hs
     → (slice_index_or (slice_index_or kept n []) i no_kept).event ≡ (slice_index_or (slice_index_or hs n []) i no_event).event
 same_node [] [] n i h = refl
 same_node [] (ds ∷ hs) n i h = absurd h
 same_node (xs ∷ kept) [] n i h = absurd h
-same_node (xs ∷ kept) (ds ∷ hs) zero i h = same_place xs ds i h.0
+same_node (xs ∷ kept) (ds ∷ hs) zero i h = same_cluster_ref xs ds i h.0
 same_node (xs ∷ kept) (ds ∷ hs) (suc n) i h = same_node kept hs n i h.1
 
 same_steps : (kept : List (List Kept)) (hs : List (List RecordedEvent)) (ts : List Turn) → AlikeAll kept hs → map (step_at kept) ts ≡ steps_of (map (entry_at hs) ts)

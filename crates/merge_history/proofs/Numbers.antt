@@ -1,6 +1,6 @@
 -- The other end by number is the other end.
 use Rattle.std.proofs.Common.{◌≡◌, ℕ, ◌+◌, ◌-◌, ◌*◌, ◌<◌, ◌/◌, ◌%◌, Bool, true, false, length, refl, sym, ap, subst, ◌∙◌, arith, nat_lt}
-use Rattle.std.specs.Prelude.{◌&&◌, ◌==◌, not}
+use Rattle.std.specs.Prelude.{◌==◌, not}
 use Rattle.std.proofs.lemmas.Bool.{eq-eqb, eqb-true, false≢true, ltb-true, lt-ltb}
 use Rattle.std.proofs.lemmas.Nat.{div-mul-add, mod-mul-add, mul-add-lt}
 use Rattle.std.proofs.Math.Nat.{div-add-mod, div-lt_iff_lt-mul, mod-lt, mul_comm}
@@ -14,6 +14,7 @@ use Rattle.world_laws.proofs.Walks.Walk.{left, on_false, on_true, right}
 use Rattle.merge_history.specs.declared.packet_layout.FarEnd.{FarEnd}
 use Rattle.merge_history.specs.Ends.{IsLayoutOf, LinkEnds, OtherEnd, other_end}
 use Rattle.merge_history.specs.Peers.{LayoutView, broker_end, client_end, end_of}
+pub use Rattle.geo_base.proofs.Bools.{and_of_both as both_true}
 
 broker_end_of : (l : LayoutView) (t x : ℕ) (q : Peer) → x < l.clusters → t * l.clusters + x < l.brokers → end_of l (t * l.clusters + x) q ≡ broker_end l t x q
 broker_end_of l t x q small lt =
@@ -68,9 +69,6 @@ end_is s l (ClientNode c) q of there h =
     (subst (λ (d : FarEnd). IsEnd s d (other_end s (ClientNode c) q)) (sym (client_end_of l c q)) (client_ends s l c q of h))
 
 -- ---- each link of a setup has its ends
-pub both_true : (a b : Bool) → a ≡ true → b ≡ true → (a && b) ≡ true
-both_true true b e e' = e'
-both_true false b e e' = absurd (false≢true e)
 
 pub not_same : (m n : ℕ) → (m == n) ≡ false → not (m == n) ≡ true
 not_same m n e = ap not e

@@ -10,7 +10,7 @@ use Rattle.world_laws.proofs.Merges.ByteHistories.{bytes_are_histories}
 use Rattle.world_laws.proofs.Merges.MergedRun.{has_begun, has_recorded}
 use Rattle.world_laws.specs.Recorded.{IsAsRecorded, merged_world}
 use Rattle.frame_laws.proofs.AlikeBytes.{alike_bytes}
-use Rattle.frame_laws.specs.Books.{StandsAs}
+use Rattle.frame_laws.specs.Logs.{StandsAs}
 use Rattle.merge_history.specs.declared.packet_layout.Home.{Home}
 use Rattle.merge_history.specs.Kept.{Kept, kept_by}
 use Rattle.merge_history.specs.Differences.{AllSent}

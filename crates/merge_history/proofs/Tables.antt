@@ -9,6 +9,7 @@ use Rattle.wire_ends.specs.declared.packet.WirePacket.{WirePacket}
 use Rattle.world_laws.specs.ByteHistories.{ByteSent}
 use Rattle.merge_history.specs.Peers.{same_peer, sent_once}
 use Rattle.merge_history.specs.Slots.{sends_in, slot}
+use Rattle.geo_base.proofs.Sums.{eq_apart}
 
 -- one default more at the end
 pub default_past : {X : Type 0} (xs : List X) (d : X) (k : ℕ) → slice_index_or (xs ++ d ∷ []) k d ≡ slice_index_or xs k d
@@ -23,44 +24,36 @@ count_past ns k = default_past ns 0 k
 pub sends_past : {X : Type 0} (ps : List (List X)) (k : ℕ) → slice_index_or (ps ++ [] ∷ []) k [] ≡ slice_index_or ps k []
 sends_past ps k = default_past ps [] k
 
--- peers have one slot each
-apart : (m n : ℕ) → (m ≡ n → ⊥) → (m == n) ≡ false
-apart m n ne = by (m == n) refl
-  where
-    by : (t : Bool) → (m == n) ≡ t → t ≡ false
-    by true e = absurd (ne (eqb-true m n e))
-    by false e = refl
-
 same_slot : (k m n : ℕ) → (4 * m + k == 4 * n + k) ≡ (m == n)
 same_slot k m n = by (m == n) refl
   where
     by : (t : Bool) → (m == n) ≡ t → (4 * m + k == 4 * n + k) ≡ t
     by true e = eq-eqb _ _ (ap (λ (i : ℕ). 4 * i + k) (eqb-true m n e))
-    by false e = apart _ _ (λ is. false≢true (sym e ∙ eq-eqb m n (omega (arith, is))))
+    by false e = eq_apart _ _ (λ is. false≢true (sym e ∙ eq-eqb m n (omega (arith, is))))
 
 same_slot_none : (m n : ℕ) → (4 * m == 4 * n) ≡ (m == n)
 same_slot_none m n = by (m == n) refl
   where
     by : (t : Bool) → (m == n) ≡ t → (4 * m == 4 * n) ≡ t
     by true e = eq-eqb _ _ (ap (λ (i : ℕ). 4 * i) (eqb-true m n e))
-    by false e = apart _ _ (λ is. false≢true (sym e ∙ eq-eqb m n (omega (arith, is))))
+    by false e = eq_apart _ _ (λ is. false≢true (sym e ∙ eq-eqb m n (omega (arith, is))))
 
 pub slot_same : (p q : Peer) → (slot p == slot q) ≡ same_peer p q
 slot_same (peer.Forward y) (peer.Forward z) = same_slot_none y z
-slot_same (peer.Forward y) (peer.Back z) = apart _ _ (λ is. omega (arith, is))
-slot_same (peer.Forward y) (peer.Client z) = apart _ _ (λ is. omega (arith, is))
-slot_same (peer.Forward y) (peer.Broker z) = apart _ _ (λ is. omega (arith, is))
-slot_same (peer.Back y) (peer.Forward z) = apart _ _ (λ is. omega (arith, is))
+slot_same (peer.Forward y) (peer.Back z) = eq_apart _ _ (λ is. omega (arith, is))
+slot_same (peer.Forward y) (peer.Client z) = eq_apart _ _ (λ is. omega (arith, is))
+slot_same (peer.Forward y) (peer.Broker z) = eq_apart _ _ (λ is. omega (arith, is))
+slot_same (peer.Back y) (peer.Forward z) = eq_apart _ _ (λ is. omega (arith, is))
 slot_same (peer.Back y) (peer.Back z) = same_slot 1 y z
-slot_same (peer.Back y) (peer.Client z) = apart _ _ (λ is. omega (arith, is))
-slot_same (peer.Back y) (peer.Broker z) = apart _ _ (λ is. omega (arith, is))
-slot_same (peer.Client y) (peer.Forward z) = apart _ _ (λ is. omega (arith, is))
-slot_same (peer.Client y) (peer.Back z) = apart _ _ (λ is. omega (arith, is))
+slot_same (peer.Back y) (peer.Client z) = eq_apart _ _ (λ is. omega (arith, is))
+slot_same (peer.Back y) (peer.Broker z) = eq_apart _ _ (λ is. omega (arith, is))
+slot_same (peer.Client y) (peer.Forward z) = eq_apart _ _ (λ is. omega (arith, is))
+slot_same (peer.Client y) (peer.Back z) = eq_apart _ _ (λ is. omega (arith, is))
 slot_same (peer.Client y) (peer.Client z) = same_slot 2 y z
-slot_same (peer.Client y) (peer.Broker z) = apart _ _ (λ is. omega (arith, is))
-slot_same (peer.Broker y) (peer.Forward z) = apart _ _ (λ is. omega (arith, is))
-slot_same (peer.Broker y) (peer.Back z) = apart _ _ (λ is. omega (arith, is))
-slot_same (peer.Broker y) (peer.Client z) = apart _ _ (λ is. omega (arith, is))
+slot_same (peer.Client y) (peer.Broker z) = eq_apart _ _ (λ is. omega (arith, is))
+slot_same (peer.Broker y) (peer.Forward z) = eq_apart _ _ (λ is. omega (arith, is))
+slot_same (peer.Broker y) (peer.Back z) = eq_apart _ _ (λ is. omega (arith, is))
+slot_same (peer.Broker y) (peer.Client z) = eq_apart _ _ (λ is. omega (arith, is))
 slot_same (peer.Broker y) (peer.Broker z) = same_slot 3 y z
 
 -- one packet more in the slot of its peer

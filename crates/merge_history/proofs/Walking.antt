@@ -2,7 +2,7 @@
 use Rattle.std.proofs.Common.{◌≡◌, ℕ, zero, suc, ◌+◌, ◌<◌, ◌≤◌, Bool, true, false, List, [], ◌∷◌, ◌++◌, length, refl, sym, ap, subst, ◌∙◌, ◌==◌, arith, inl, inr}
 use Rattle.std.specs.Prelude.{Option, Some, None, if◌then◌else◌, slice_get, slice_index_or, take}
 use Rattle.std.proofs.lemmas.List.{append-nil, append_assoc}
-use Rattle.std.proofs.lemmas.Option.{none-some, same_Some}
+use Rattle.std.proofs.lemmas.Option.{same_Some}
 use Rattle.geo_base.specs.declared.packet.Peer.{Peer}
 use Rattle.world_laws.specs.ByteHistories.{ByteSent}
 use Rattle.world_laws.proofs.OnceInOrder.Members.{below_or}
@@ -13,6 +13,7 @@ use Rattle.merge_history.specs.Peers.{LayoutView, asked, cluster_along, cluster_
 use Rattle.merge_history.specs.Slots.{IsRaised, count_in, sends_in, slot}
 use Rattle.merge_history.specs.Walks.{DiffersHere, IsFoundAt, IsSentHere, IsWalked, WalkView}
 use Rattle.merge_history.proofs.Tables.{slot_same}
+pub use Rattle.geo_base.proofs.Lists.{get_below as got_within}
 
 -- ---- one event more
 pub taken_push : (q : Peer) (x : ℕ) (ds : List Kept) (d : Kept) → taken_from q x (ds ++ d ∷ []) ≡ taken_from q x ds ++ taken_once q (peer_taken (cluster_along x ds) d.event) d.taken
@@ -69,11 +70,6 @@ pub got_at : {X : Type 0} (xs : List X) (i : ℕ) (x : X) → i < length xs → 
 got_at [] i x lt is = absurd (omega (arith, lt))
 got_at (y ∷ xs) zero x lt is = ap (λ z. Some z) is
 got_at (y ∷ xs) (suc i) x lt is = got_at xs i x (omega (arith, lt)) is
-
-pub got_within : {X : Type 0} (xs : List X) (i : ℕ) (x : X) → slice_get xs i ≡ Some x → i < length xs
-got_within [] i x h = absurd (none-some x h)
-got_within (y ∷ xs) zero x h = omega arith
-got_within (y ∷ xs) (suc i) x h = let lt = got_within xs i x h in omega (arith, lt)
 
 -- ---- the next event
 -- a packet that is not the one that was sent is the first, where each before it is

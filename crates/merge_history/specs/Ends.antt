@@ -10,7 +10,7 @@ use Rattle.geo_base.specs.Nodes.{BrokerNode, ClientNode, Node, broker_count, is_
 use Rattle.geo_base.specs.Setup.{Declared, Setup, declared_at}
 use Rattle.geo_base.specs.World.{Back, Forward, LinkName, node}
 use Rattle.world_laws.specs.ByteHistories.{ByteSent, StandAll}
-use Rattle.frame_laws.specs.Books.{StandsAs}
+use Rattle.frame_laws.specs.Logs.{StandsAs}
 use Rattle.wire_ends.specs.declared.packet.WirePacket.{WirePacket}
 use Rattle.merge_history.specs.declared.packet_layout.Home.{Home}
 use Rattle.merge_history.specs.Kept.{Kept, kept_by}

@@ -1,4 +1,4 @@
--- The events of books as the steps of a script: all, whatever configuration a book keeps, that the script may schedule (own).
+-- The events of logs as the steps of a script: all, whatever configuration a log keeps, that the script may schedule (own).
 use Rattle.std.specs.Prelude.{◌≡◌, ◌==◌, ◌&&◌, ℕ, Bool, true, false, not, if◌then◌else◌, List, [], ◌∷◌, map, ⊤}
 use Rattle.geo_base.specs.declared.event.Event.{Event}
 use Rattle.geo_base.specs.declared.event.Event.TheVariants as event
@@ -9,7 +9,7 @@ use Rattle.geo_base.specs.Merge.{history_of, merge_of, steps_of}
 use Rattle.geo_base.specs.Planned.{in_range}
 use Rattle.geo_base.specs.Setup.{Setup}
 use Rattle.script_text.specs.Script.{Script}
-use Rattle.merge_history.specs.Books.{AreKept, BookView}
+use Rattle.merge_history.specs.Logs.{AreKept, LogView}
 use Rattle.merge_history.specs.Ends.{AreStood, layout_of}
 use Rattle.merge_history.specs.Kept.{Kept}
 use Rattle.merge_history.specs.Turns.{AlikeAll, Rise}
@@ -48,22 +48,22 @@ abbrev pub allowed : Setup → List Step → List Step
 allowed s [] = []
 allowed s (e ∷ es) = if may_schedule s e then e ∷ allowed s es else allowed s es
 
--- ---- the events of books
+-- ---- the events of logs
 
-abbrev pub history_in : BookView → List Kept
+abbrev pub history_in : LogView → List Kept
 history_in b = b.history
 
-abbrev pub histories_of : List BookView → List (List Kept)
+abbrev pub histories_of : List LogView → List (List Kept)
 histories_of bs = map history_in bs
 
--- Of all books: the steps of the merge of any histories of values with the same events, and stamps that rise, as far as a script may
+-- Of all logs: the steps of the merge of any histories of values with the same events, and stamps that rise, as far as a script may
 -- schedule them.
-abbrev pub AreMergedEvents : Setup → List BookView → List Step → Type 0
+abbrev pub AreMergedEvents : Setup → List LogView → List Step → Type 0
 AreMergedEvents s bs es = (said : List (List RecordedEvent)) → AlikeAll (histories_of bs) said → ((n : ℕ) → Rise (history_of said n))
     → es ≡ allowed s (steps_of (merge_of said))
 
--- Of books none of which is strange: those of their merge, all of them.
-pub record AreOwnEvents (c : Script) (bs : List BookView) (es : List Step) : Type 0 where
+-- Of logs none of which is strange: those of their merge, all of them.
+pub record AreOwnEvents (c : Script) (bs : List LogView) (es : List Step) : Type 0 where
   pub kept : List (List Kept)
   pub counts : AreKept c bs kept
   pub said : List (List RecordedEvent)

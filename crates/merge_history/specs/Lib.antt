@@ -6,6 +6,6 @@ pub mod Walks
 pub mod Firsts
 pub mod Ends
 pub mod Turns
-pub mod Books
+pub mod Logs
 pub mod Merges
 pub mod Events

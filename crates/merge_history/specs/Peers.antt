@@ -66,7 +66,7 @@ sent_to q [] = []
 sent_to q (d ∷ ds) = sent_once q d.sent ++ sent_to q ds
 
 -- ---- the other end: the node that a peer is, and as what it knows this one. Brokers are numbered by topic and cluster, clients
--- behind them
+-- after them
 -- what a setup says of them
 pub record LayoutView : Type 0 where
   pub clusters : ℕ

@@ -21,7 +21,7 @@ pub record WalkView : Type 0 where
   pub counts : List ℕ
   pub cluster : ℕ
 
--- behind these events of node n
+-- after these events of node n
 pub record IsWalked (l : LayoutView) (n : ℕ) (ds : List Kept) (w : WalkView) : Type 0 where
   pub counts : (q : Peer) → count_in w.counts (slot q) ≡ length (taken_from q (home_of l n).cluster ds)
   pub cluster : w.cluster ≡ cluster_along (home_of l n).cluster ds

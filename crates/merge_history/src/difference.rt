@@ -1,4 +1,4 @@
-//! Where books do not fit together.
+//! Where logs do not fit together.
 ghost use Rattle.std.specs.Prelude.{◌≡◌, IfOk};
 ghost use Rattle.std.specs.Arc.{arc_value};
 
@@ -17,7 +17,7 @@ pub struct NodeConfig {
 
 impl Model for NodeConfig {
     ghost use Rattle.std.specs.Arc.{arc_value};
-    ghost use Rattle.merge_history.specs.Books.{ConfigView};
+    ghost use Rattle.merge_history.specs.Logs.{ConfigView};
 
     ghost Value = { ConfigView };
 
@@ -36,8 +36,8 @@ impl NodeConfig {
     }
 }
 
-/// What is the first not to fit. `Config` comes exactly where a book is strange: `node` is the place of the first such book,
-/// `kept` what that book keeps and `given` what its place asks. `Packet` comes exactly where no book is strange and a packet that
+/// What is the first not to fit. `Config` comes exactly where a log is strange: `node` is the place of the first such log,
+/// `kept` what that log keeps and `given` what its place asks. `Packet` comes exactly where no log is strange and a packet that
 /// was taken is not the one that was sent: the first such in the order of the steps, taken by `node` from `peer` after `index`
 /// others from there; `sent` is what the peer sent at that place, if anything (own).
 #[derive(Drop)]

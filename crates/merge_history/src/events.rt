@@ -1,54 +1,54 @@
-//! The events of books, for a run of them.
+//! The events of logs, for a run of them.
 ghost use Rattle.std.specs.Prelude.{◌≡◌, ◌<◌, ◌^◌, ℕ, All, IfOk, length, nat_lt};
 ghost use Rattle.geo_base.specs.NodeState.{NodeState};
 ghost use Rattle.geo_base.specs.Nodes.{node_count};
 ghost use Rattle.geo_base.specs.Planned.{has_client, has_node, has_sub};
-ghost use Rattle.merge_history.specs.Books.{AreBooks, AreOwn};
+ghost use Rattle.merge_history.specs.Logs.{AreLogs, AreOwn};
 ghost use Rattle.merge_history.specs.Events.{AreMergedEvents, AreOwnEvents, IsOfLink, MaySchedule, allowed, histories_of, may_happen, may_schedule};
 
 use crate::History;
-use crate::book::Book;
+use crate::log::LogRef;
 use crate::steps::merged_steps;
 use geo_base::{Event, Memory, Step};
 use script_text::{Scenario, StepList};
 use std::alloc::Global;
 
-/// The events of all books of a scenario's nodes, in the nodes' order, as far as its script may schedule them; ordered by stamp and node.
-/// Neither the configurations that books keep nor packets are compared, so this is linear in nodes and events. Of books none of
+/// The events of all logs of a scenario's nodes, in the nodes' order, as far as its script may schedule them; ordered by stamp and node.
+/// Neither the configurations that logs keep nor packets are compared, so this is linear in nodes and events. Of logs none of
 /// which is strange every event is there. An `Err` is want of memory.
 pub fn merge_events(
     alloc: Global,
     scenario: &Scenario,
-    books: &[Book<'_>],
+    logs: &[LogRef<'_>],
 ) -> Result<StepList, Memory>
-    requires { length books.now ≡ node_count scenario.now.setup }
+    requires { length logs.now ≡ node_count scenario.now.setup }
     ensures each { IfOk result (λ es. All (MaySchedule scenario.now.setup) es) }
-    ensures all { IfOk result (AreMergedEvents scenario.now.setup books.now) }
-    ensures own { (st : ℕ → NodeState) (clock : ℕ → ℕ) → AreBooks books.now st clock → AreOwn scenario.now books.now
-        → IfOk result (AreOwnEvents scenario.now books.now) }
+    ensures all { IfOk result (AreMergedEvents scenario.now.setup logs.now) }
+    ensures own { (st : ℕ → NodeState) (clock : ℕ → ℕ) → AreLogs logs.now st clock → AreOwn scenario.now logs.now
+        → IfOk result (AreOwnEvents scenario.now logs.now) }
 {
     let _known = scenario.clients();
-    all_events(alloc, scenario, books)
+    all_events(alloc, scenario, logs)
 }
 
-/// The same of fewer books than 2^32.
-fn all_events(alloc: Global, scenario: &Scenario, books: &[Book<'_>]) -> Result<StepList, Memory>
-    requires { length books.now < 2 ^ 32 }
+/// The same of fewer logs than 2^32.
+fn all_events(alloc: Global, scenario: &Scenario, logs: &[LogRef<'_>]) -> Result<StepList, Memory>
+    requires { length logs.now < 2 ^ 32 }
     ensures each { IfOk result (λ es. All (MaySchedule scenario.now.setup) es) }
-    ensures all { IfOk result (AreMergedEvents scenario.now.setup books.now) }
+    ensures all { IfOk result (AreMergedEvents scenario.now.setup logs.now) }
 {
-    let histories = histories_of(alloc, books)?;
+    let histories = histories_of(alloc, logs)?;
     let merged = merged_steps(alloc, histories.as_slice())?;
     allowed_steps(alloc, scenario, &merged)
 }
 
-/// The histories of all books.
-fn histories_of<'a>(alloc: Global, books: &[Book<'a>]) -> Result<Vec<History<'a>>, Memory>
-    ensures { IfOk result (λ hs. hs.items ≡ histories_of books.now) }
+/// The histories of all logs.
+fn histories_of<'a>(alloc: Global, logs: &[LogRef<'a>]) -> Result<Vec<History<'a>>, Memory>
+    ensures { IfOk result (λ hs. hs.items ≡ histories_of logs.now) }
 {
     let mut histories = Vec::new(alloc);
-    for book in books {
-        histories.push(History::new(book.events()))?;
+    for log in logs {
+        histories.push(History::new(log.events()))?;
     }
     Ok(histories)
 }

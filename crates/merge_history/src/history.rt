@@ -1,7 +1,7 @@
 //! What a node did.
 ghost use Rattle.std.specs.Prelude.{◌≡◌};
 
-use book_parts::Done;
+use log_parts::Done;
 use std::marker::Model;
 
 /// What a node did, in order; not owned.

@@ -5,13 +5,12 @@
 //! the peer's. [`first_difference`] reads each history once. The laws say what agreement means: the machine's run over the merge
 //! of the histories is what was recorded (`law_run`).
 //!
-//! Each node has a book: its configuration, its number, and its history ([`Book`]). A book is strange where its configuration is
-//! not the given one or its number is not its place's; it counts for nothing. [`merge_books`] orders the events of all others by
+//! Each node has a log: its configuration, its number, and its history ([`LogRef`]). A log is strange where its configuration is
+//! not the given one or its number is not its place's; it counts for nothing. [`merge_logs`] orders the events of all others by
 //! stamp and, among equal stamps, by node. An event's stamp is greater than that of the packet that it took, so each packet is
-//! sent before it is taken. Where nothing differs, the machine's run over these events is what the books recorded.
+//! sent before it is taken. Where nothing differs, the machine's run over these events is what the logs recorded.
 #![tactic(auto)]
 
-mod book;
 mod counts;
 mod difference;
 mod differences;
@@ -19,6 +18,7 @@ mod events;
 mod history;
 mod laws;
 mod layout;
+mod log;
 mod merge;
 mod outbox;
 mod packet_laws;
@@ -30,13 +30,13 @@ mod strange;
 mod turn;
 mod walk;
 
-pub use book::Book;
 pub use difference::{Difference, NodeConfig};
 pub use differences::{PacketDifference, first_difference};
 pub use events::merge_events;
 pub use history::History;
 pub use laws::law_sorted;
-pub use merge::{Merged, merge_books};
+pub use log::LogRef;
+pub use merge::{Merged, merge_logs};
 pub use packet_laws::{law_agree, law_ends, law_linked, law_run};
 pub use packet_layout::{FarEnd, Home, Layout};
 pub use packets::{Packets, packets_of};

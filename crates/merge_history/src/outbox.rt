@@ -6,8 +6,8 @@ ghost use Rattle.merge_history.specs.Peers.{sent_once, sent_to};
 ghost use Rattle.merge_history.specs.Slots.{sends_in, slot};
 
 use crate::slot::slot;
-use book_parts::{Done, Sent};
 use geo_base::{Memory, Peer};
+use log_parts::{Done, Sent};
 use std::alloc::Global;
 use std::marker::Model;
 use wire_ends::WirePacket;

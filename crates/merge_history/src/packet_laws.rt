@@ -10,7 +10,7 @@ ghost use Rattle.geo_base.specs.Setup.{Setup};
 ghost use Rattle.geo_base.specs.World.{LinkName};
 ghost use Rattle.world_laws.specs.ByteHistories.{AreByteHistories, bytes_sent_in, bytes_taken_in};
 ghost use Rattle.world_laws.specs.Recorded.{IsAsRecorded, merged_world};
-ghost use Rattle.frame_laws.specs.Books.{StandsAs};
+ghost use Rattle.frame_laws.specs.Logs.{StandsAs};
 ghost use Rattle.merge_history.specs.Ends.{AreStood, IsLayoutOf, LinkEnds, SendsToPeers, TakesFromPeers, layout_of, other_end};
 ghost use Rattle.wire_ends.specs.declared.packet.WirePacket.{WirePacket};
 ghost use Rattle.merge_history.specs.Kept.{Kept, kept_by};

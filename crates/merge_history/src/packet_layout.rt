@@ -1,4 +1,4 @@
-//! Who shares links with whom. Nodes are numbered: brokers by topic and cluster, clients behind them.
+//! Who shares links with whom. Nodes are numbered: brokers by topic and cluster, clients after them.
 ghost use Rattle.std.specs.Prelude.{◌≡◌, ◌<◌, ◌+◌, ◌*◌, ◌≤◌, ◌^◌};
 ghost use Rattle.merge_history.specs.Peers.{IsLayout, broker_end, client_end, end_of, home_at, home_of};
 

@@ -8,8 +8,8 @@ ghost use Rattle.merge_history.specs.Turns.{AlikeAll, AreSorted, IsIn, Rise, all
 
 use crate::History;
 use crate::turn::Turn;
-use book_parts::Done;
 use geo_base::{Event, Memory, Step};
+use log_parts::Done;
 use script_text::StepList;
 use std::alloc::Global;
 

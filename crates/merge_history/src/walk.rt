@@ -11,8 +11,8 @@ use crate::outbox::Outbox;
 use crate::packet_layout::{FarEnd, Layout};
 use crate::packets::same_packet;
 use crate::slot::slot;
-use book_parts::{Done, Sent};
 use geo_base::{Event, Memory, Peer};
+use log_parts::{Done, Sent};
 use std::alloc::Global;
 use std::marker::Model;
 use wire_ends::WirePacket;
@@ -92,7 +92,7 @@ impl Walk {
             if let Some((peer, index)) = self.differs(layout, outboxes, node, done) {
                 return Ok(Some(Found { place, peer, index }));
             }
-            self.pass(done)?;
+            self.go_on(done)?;
         }
         Ok(None)
     }
@@ -133,9 +133,9 @@ impl Walk {
         }
     }
 
-    /// Goes on behind an event.
+    /// Goes on after an event.
     #[tactic(auto, using(crate::proofs::Walking::walked_on))]
-    fn pass(&mut self, done: &Done) -> Result<(), Memory>
+    fn go_on(&mut self, done: &Done) -> Result<(), Memory>
         ensures { OnOk result ((l : LayoutView) (n : ℕ) (ds : List Kept) → IsWalked l n ds self.old → IsWalked l n (ds ++ done.now ∷ []) self.new) }
     {
         let asked = self.asked(done);

@@ -1,4 +1,4 @@
--- Metadata whose known fields stand apart, and what else is written behind them.
+-- Metadata whose known fields stand apart, and what else is written after them.
 use Rattle.std.specs.Prelude.{◌≡◌, ℕ, List, [], ◌++◌, IsUtf8, IfSome}
 use Rattle.std.specs.List.{AllByRecursion}
 use Rattle.std.specs.Option.{option_copied}

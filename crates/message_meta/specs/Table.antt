@@ -1,5 +1,5 @@
--- The fields of MessageMetadata that are read, with the numbers and types of PulsarApi.proto; the number of marker_type is
--- fixed here as this project's profile (own).
+-- The fields of MessageMetadata that are read, with the numbers and types of PulsarApi.proto (that of marker_type
+-- as known and not looked up).
 use Rattle.std.specs.Prelude.{ℕ, true, false, List, [], ◌∷◌}
 use Rattle.pb_fields.specs.declared.message.Form.{Form}
 use Rattle.pb_fields.specs.declared.message.Form.TheVariants as form

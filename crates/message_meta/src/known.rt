@@ -34,7 +34,7 @@ pub struct KnownMeta<'a> {
 }
 
 impl KnownMeta<'_> {
-    /// The canonical text: the known fields in the order of their numbers, and behind them `rest` as it stands, the
+    /// The canonical text: the known fields in the order of their numbers, and after them `rest` as it stands, the
     /// canonical text of fields that the table does not name. `Memory` where there is no room for it.
     #[tactic(auto, using(crate::proofs::Joined::joined_is))]
     pub fn write_with(self, alloc: Global, rest: &[u8]) -> Result<Blob, Memory>

@@ -26,7 +26,7 @@ pub const REPLICATE_TO: u32 = 7;
 /// What kind of marker the message is, where it is one.
 pub const MARKER_TYPE: u32 = 20;
 
-/// The numbers and types of PulsarApi.proto, but for the number of `marker_type`, which is this project's own.
+/// The numbers and types of PulsarApi.proto; that of `marker_type` as known and not looked up.
 pub const ROWS: &[Row] = &[
     Row {
         number: PRODUCER_NAME,

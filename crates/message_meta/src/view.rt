@@ -70,7 +70,7 @@ impl MetaView<'_> {
         Some(producer + seq + publish_time + replicated_from + key)
     }
 
-    /// Puts its canonical text behind the bytes of a buffer that has room for it.
+    /// Puts its canonical text after the bytes of a buffer that has room for it.
     pub fn put(self, out: &mut Buffer)
         requires { length (text (canonical_fields (meta_viewed self))) ≤ out.old.spare }
         ensures text { Puts out.old (text (canonical_fields (meta_viewed self.entry))) out.new }

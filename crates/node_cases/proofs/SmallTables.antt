@@ -3,15 +3,15 @@ use Rattle.std.proofs.Common.{◌≡◌, ℕ, zero, suc, ◌-◌, ◌<◌, ◌==
 use Rattle.std.specs.Prelude.{if◌then◌else◌}
 use Rattle.std.proofs.lemmas.Bool.{ltb-true}
 use Rattle.std.proofs.lemmas.Bool.Decides.{nat_tests}
-use Rattle.book_parts.specs.declared.table.EndRow.{EndRow}
-use Rattle.book_parts.specs.Peers.{same_peer}
-use Rattle.book_parts.specs.Rows.{has_peer}
+use Rattle.log_parts.specs.declared.table.EndRow.{EndRow}
+use Rattle.log_parts.specs.Peers.{same_peer}
+use Rattle.log_parts.specs.Rows.{has_peer}
 use Rattle.geo_base.specs.declared.packet.Peer.{Peer}
 use Rattle.geo_base.specs.declared.packet.Peer.TheVariants as peer
 use Rattle.geo_base.specs.Nodes.{BrokerNode, ClientNode, is_peer}
 use Rattle.geo_base.specs.Setup.{Setup, declared_at}
 use Rattle.node_cases.specs.Small.{IsSmall, peers_in}
-use Rattle.node_book.specs.Books.{HasPeers}
+use Rattle.node_log.specs.Logs.{HasPeers}
 
 abbrev is_one : List Peer → Peer → Bool
 is_one [] q = false

@@ -1,6 +1,6 @@
 -- A script of two clusters, a topic and two clients of it.
 use Rattle.std.specs.Prelude.{◌≡◌, List, length, map}
-use Rattle.book_parts.specs.declared.table.EndRow.{EndRow}
+use Rattle.log_parts.specs.declared.table.EndRow.{EndRow}
 use Rattle.geo_base.specs.declared.packet.Peer.{Peer}
 use Rattle.geo_base.specs.Setup.{Setup, declared_at}
 

@@ -1,13 +1,13 @@
-//! Four books do the events of a script beside a world that does them too: each event is done at one node where it is not idle in
+//! Four logs do the events of a script beside a world that does them too: each event is done at one node where it is not idle in
 //! the world, and at none where it is; and both come to the same.
 ghost use Rattle.std.specs.Prelude.{◌<◌, ◌≤◌, length};
 ghost use Rattle.world.specs.World.{IsAt};
 
-use crate::books::{Books, act, add_broker, add_client, carry};
+use crate::logs::{Logs, act, add_broker, add_client, carry};
 use broker::Broker;
 use client::Client;
 use geo_base::{EntryStore, Event, Memory, Peer, Step};
-use node_book::NodeState;
+use node_log::NodeState;
 use script_text::{Scenario, read_script};
 use std::alloc::Global;
 use std::sync::Arc;
@@ -82,7 +82,7 @@ serve b p
 go p
 ";
 
-/// The books of the four nodes by number.
+/// The logs of the four nodes by number.
 const WEST: usize = 0;
 
 const EAST: usize = 1;
@@ -91,21 +91,21 @@ const PUBLISHER: usize = 2;
 
 const CONSUMER: usize = 3;
 
-/// The books of all nodes.
-fn open(alloc: Global, scenario: &Arc<Scenario>, books: &mut Books) -> Result<(), Memory> {
-    add_broker(alloc, scenario, 0, 64, books)?;
-    add_broker(alloc, scenario, 1, 64, books)?;
-    add_client(alloc, scenario, 0, 64, books)?;
-    add_client(alloc, scenario, 1, 64, books)
+/// The logs of all nodes.
+fn open(alloc: Global, scenario: &Arc<Scenario>, logs: &mut Logs) -> Result<(), Memory> {
+    add_broker(alloc, scenario, 0, 64, logs)?;
+    add_broker(alloc, scenario, 1, 64, logs)?;
+    add_client(alloc, scenario, 0, 64, logs)?;
+    add_client(alloc, scenario, 1, 64, logs)
 }
 
 /// At how many nodes an event is done; what they send is carried then.
-fn act_at_all(alloc: Global, books: &mut Books, event: &Event) -> Result<u64, Memory> {
-    let west = act(alloc, books, WEST, event)?;
-    let east = act(alloc, books, EAST, event)?;
-    let publisher = act(alloc, books, PUBLISHER, event)?;
-    let consumer = act(alloc, books, CONSUMER, event)?;
-    carry_all(books)?;
+fn act_at_all(alloc: Global, logs: &mut Logs, event: &Event) -> Result<u64, Memory> {
+    let west = act(alloc, logs, WEST, event)?;
+    let east = act(alloc, logs, EAST, event)?;
+    let publisher = act(alloc, logs, PUBLISHER, event)?;
+    let consumer = act(alloc, logs, CONSUMER, event)?;
+    carry_all(logs)?;
     Ok(count_of(west) + count_of(east) + count_of(publisher) + count_of(consumer))
 }
 
@@ -135,19 +135,19 @@ const LINKS: &[((usize, Peer), (usize, Peer))] = &[
 ];
 
 /// Carries all that was sent.
-fn carry_all(books: &mut Books) -> Result<(), Memory> {
+fn carry_all(logs: &mut Logs) -> Result<(), Memory> {
     for &(from, to) in LINKS.iter() {
-        carry(books, from, to)?;
+        carry(logs, from, to)?;
     }
     Ok(())
 }
 
-/// The first step at which the books do another thing than the world; the number of steps where there is none.
+/// The first step at which the logs do another thing than the world; the number of steps where there is none.
 fn first_wrong(
     alloc: Global,
     scenario: &Scenario,
     world: &mut World,
-    books: &mut Books,
+    logs: &mut Logs,
 ) -> Result<usize, Memory>
     requires { IsAt scenario.now.setup world.old }
     ensures { IsAt scenario.now.setup world.new }
@@ -163,7 +163,7 @@ fn first_wrong(
             return Ok(place);
         };
         let is_done = world.events() != before;
-        if act_at_all(alloc, books, &event)? != count_of(is_done) {
+        if act_at_all(alloc, logs, &event)? != count_of(is_done) {
             return Ok(place);
         }
     }
@@ -184,7 +184,7 @@ fn figures_of(broker: &Broker) -> [u64; 5] {
 
 fn mark_of(broker: &Broker, remote: u32) -> u64 {
     if (remote as usize) < broker.site().clusters().len() {
-        broker.sender_mark(remote)
+        broker.replicator_mark(remote)
     } else {
         0
     }
@@ -210,33 +210,33 @@ fn figures_of_client(client: &Client) -> [u64; 5] {
     ]
 }
 
-/// The figures of a book; of none where there is no such book.
-fn figures_in(books: &Books, number: usize) -> [u64; 5] {
-    let Some(book) = books.get(number) else {
+/// The figures of a log; of none where there is no such log.
+fn figures_in(logs: &Logs, number: usize) -> [u64; 5] {
+    let Some(log) = logs.get(number) else {
         return [0; 5];
     };
-    match book.state() {
+    match log.state() {
         NodeState::Broker(broker) => figures_of(broker),
         NodeState::Client(own) => figures_of_client(&own.client),
     }
 }
 
-/// Whether a client of the world came to what its book did.
+/// Whether a client of the world came to what its log did.
 fn is_same_client(
     scenario: &Scenario,
     world: &World,
     client: u32,
-    books: &Books,
+    logs: &Logs,
     number: usize,
 ) -> bool
     requires at { IsAt scenario.now.setup world.now }
     requires client { client < length scenario.now.setup.clients }
 {
-    figures_in(books, number) == figures_of_client(world.client(client))
+    figures_in(logs, number) == figures_of_client(world.client(client))
 }
 
-/// Whether the world's nodes came to what the books did.
-fn are_same(scenario: &Scenario, world: &World, books: &Books) -> bool
+/// Whether the world's nodes came to what the logs did.
+fn are_same(scenario: &Scenario, world: &World, logs: &Logs) -> bool
     requires { IsAt scenario.now.setup world.now }
 {
     if scenario.topics().is_empty()
@@ -245,54 +245,54 @@ fn are_same(scenario: &Scenario, world: &World, books: &Books) -> bool
     {
         return false;
     }
-    figures_in(books, WEST) == figures_of(world.topic(scenario, 0, 0))
-        && figures_in(books, EAST) == figures_of(world.topic(scenario, 0, 1))
-        && is_same_client(scenario, world, 0, books, PUBLISHER)
-        && is_same_client(scenario, world, 1, books, CONSUMER)
+    figures_in(logs, WEST) == figures_of(world.topic(scenario, 0, 0))
+        && figures_in(logs, EAST) == figures_of(world.topic(scenario, 0, 1))
+        && is_same_client(scenario, world, 0, logs, PUBLISHER)
+        && is_same_client(scenario, world, 1, logs, CONSUMER)
 }
 
-/// Whether the books did what the world did at each event of the script, and came to the same; how many events the world did, and how many
+/// Whether the logs did what the world did at each event of the script, and came to the same; how many events the world did, and how many
 /// were idle.
 type Told = (bool, bool, u64, u64);
 
-/// Does the events of the script at the books and in the world.
+/// Does the events of the script at the logs and in the world.
 fn compare(
     alloc: Global,
     scenario: &Scenario,
     world: &mut World,
-    books: &mut Books,
+    logs: &mut Logs,
 ) -> Result<Told, Memory>
     requires { IsAt scenario.now.setup world.old }
 {
-    let first_wrong = first_wrong(alloc, scenario, world, books)?;
+    let first_wrong = first_wrong(alloc, scenario, world, logs)?;
     Ok((
         first_wrong == scenario.steps().len(),
-        are_same(scenario, world, books),
+        are_same(scenario, world, logs),
         world.events(),
         world.counts().idle,
     ))
 }
 
 /// And in a new world.
-fn compare_new(alloc: Global, scenario: &Scenario, books: &mut Books) -> Result<Told, Memory> {
+fn compare_new(alloc: Global, scenario: &Scenario, logs: &mut Logs) -> Result<Told, Memory> {
     let mut world = World::new(alloc, scenario)?;
-    let told = compare(alloc, scenario, &mut world, books);
+    let told = compare(alloc, scenario, &mut world, logs);
     world.let_go();
     told
 }
 
-fn tell(alloc: Global, scenario: &Arc<Scenario>, books: &mut Books) -> Result<Told, Memory> {
-    open(alloc, scenario, books)?;
-    compare_new(alloc, scenario, books)
+fn tell(alloc: Global, scenario: &Arc<Scenario>, logs: &mut Logs) -> Result<Told, Memory> {
+    open(alloc, scenario, logs)?;
+    compare_new(alloc, scenario, logs)
 }
 
 #[test]
-fn books_and_a_world_come_to_the_same(rt: HostRuntime) -> Result<(), Fail> {
+fn logs_and_a_world_come_to_the_same(rt: HostRuntime) -> Result<(), Fail> {
     let alloc = rt.alloc();
     let scenario = Arc::new(alloc, read_script(alloc, SCRIPT)?)?;
-    let mut books = Vec::new(alloc);
-    let told = tell(alloc, &scenario, &mut books);
-    drop(books);
+    let mut logs = Vec::new(alloc);
+    let told = tell(alloc, &scenario, &mut logs);
+    drop(logs);
     drop(scenario);
     assert!(rt; told? == (true, true, 48, 5));
     Ok(())

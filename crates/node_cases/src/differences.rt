@@ -1,5 +1,5 @@
 //! Packets that were taken and are not those that were sent.
-use crate::merging::{Configs, Place, ROWS, Row, SCRIPT, Taken, Wrong, merge_of};
+use crate::merging::{Configs, ROWS, Row, SCRIPT, ScriptNode, Taken, Wrong, merge_of};
 use geo_base::{Memory, Step};
 use merge_history::{Difference, Merged};
 use script_text::{Scenario, read_script};
@@ -94,7 +94,7 @@ fn has_all(merge: &Merged) -> bool {
     true
 }
 
-/// Whether what differs is the packet that a row took, where the sender sent it or nothing.
+/// Whether what differs is the packet that a row took, where the replicator sent it or nothing.
 fn is_told(merge: &Merged, row: &Row, wrong: &[(usize, Wrong)]) -> bool {
     let Some(expected) = row.taken else {
         return false;
@@ -122,11 +122,11 @@ fn is_told(merge: &Merged, row: &Row, wrong: &[(usize, Wrong)]) -> bool {
     }
 }
 
-fn number_of(place: Place) -> u32 {
+fn number_of(place: ScriptNode) -> u32 {
     match place {
-        Place::West => 0,
-        Place::East => 1,
-        Place::Client => 2,
+        ScriptNode::West => 0,
+        ScriptNode::East => 1,
+        ScriptNode::Client => 2,
     }
 }
 

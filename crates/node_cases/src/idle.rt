@@ -1,5 +1,5 @@
 //! An event that is idle, or another node's, is not done.
-use crate::books::{Books, act, add_broker, events_of, scenario, stamp_of};
+use crate::logs::{Logs, act, add_broker, events_of, scenario, stamp_of};
 use geo_base::{Event, Memory};
 use script_text::Scenario;
 use std::alloc::Global;
@@ -35,9 +35,9 @@ const EVENTS: &[Event] = &[
 ];
 
 /// Whether none is done.
-fn does_none(alloc: Global, books: &mut Books) -> Result<bool, Memory> {
+fn does_none(alloc: Global, logs: &mut Logs) -> Result<bool, Memory> {
     for event in EVENTS.iter() {
-        if act(alloc, books, 0, event)? {
+        if act(alloc, logs, 0, event)? {
             return Ok(false);
         }
     }
@@ -49,26 +49,26 @@ const RESTART: Event = Event::Restart {
     cluster: 0,
 };
 
-/// Whether none is done and none stands in the book, and an event that is not idle is done; how many events stand there then, and the
+/// Whether none is done and none stands in the log, and an event that is not idle is done; how many events stand there then, and the
 /// last stamp.
 fn tell(
     alloc: Global,
     scenario: &Arc<Scenario>,
-    books: &mut Books,
+    logs: &mut Logs,
 ) -> Result<(bool, bool, usize, u64), Memory> {
-    add_broker(alloc, scenario, 0, 2, books)?;
-    let is_left = does_none(alloc, books)? && events_of(books, 0) == 0;
-    let is_done = act(alloc, books, 0, &RESTART)?;
-    Ok((is_left, is_done, events_of(books, 0), stamp_of(books, 0)))
+    add_broker(alloc, scenario, 0, 2, logs)?;
+    let is_left = does_none(alloc, logs)? && events_of(logs, 0) == 0;
+    let is_done = act(alloc, logs, 0, &RESTART)?;
+    Ok((is_left, is_done, events_of(logs, 0), stamp_of(logs, 0)))
 }
 
 #[test]
 fn an_idle_event_is_not_done(rt: HostRuntime) -> Result<(), Fail> {
     let alloc = rt.alloc();
     let scenario = scenario(alloc)?;
-    let mut books = Vec::new(alloc);
-    let told = tell(alloc, &scenario, &mut books);
-    drop(books);
+    let mut logs = Vec::new(alloc);
+    let told = tell(alloc, &scenario, &mut logs);
+    drop(logs);
     drop(scenario);
     assert!(rt; told? == (true, true, 1, 1));
     Ok(())

@@ -3,9 +3,9 @@ ghost use Rattle.std.specs.Prelude.{◌≡◌, IfOk};
 ghost use Rattle.std.specs.Arc.{arc_value};
 ghost use Rattle.geo_base.specs.Nodes.{node_count};
 
-use book_parts::{Done, Sent};
 use geo_base::{Blob, Event, Fate, Memory, Peer, Stamp};
-use merge_history::{Book, Merged, merge_books};
+use log_parts::{Done, Sent};
+use merge_history::{LogRef, Merged, merge_logs};
 use script_text::Scenario;
 use std::alloc::Global;
 use std::sync::Arc;
@@ -16,7 +16,7 @@ pub const SCRIPT: &[u8] = b"geo 1\ncluster a\ncluster b\ntopic t\nclient p t a\n
 
 /// A node of the script.
 #[derive(Clone, Copy, Drop)]
-pub enum Place {
+pub enum ScriptNode {
     West,
     East,
     Client,
@@ -34,7 +34,7 @@ pub struct Taken {
 /// An event, at which node, with its stamp, the packet that it takes, and the frame that it sends to a peer.
 #[derive(Clone, Copy, Drop)]
 pub struct Row {
-    pub place: Place,
+    pub place: ScriptNode,
     pub event: Event,
     pub stamp: u64,
     pub taken: Option<Taken>,
@@ -44,14 +44,14 @@ pub struct Row {
 /// A message is published and replicated, and then one more is. The rows are in the order of the merge.
 pub const ROWS: &[Row] = &[
     Row {
-        place: Place::Client,
+        place: ScriptNode::Client,
         event: Event::Go { client: 0 },
         stamp: 1,
         taken: None,
         sent: Some((Peer::Broker(0), "publish")),
     },
     Row {
-        place: Place::West,
+        place: ScriptNode::West,
         event: Event::Serve {
             cluster: 0,
             client: 0,
@@ -66,14 +66,14 @@ pub const ROWS: &[Row] = &[
         sent: Some((Peer::Client(0), "receipt")),
     },
     Row {
-        place: Place::West,
+        place: ScriptNode::West,
         event: READ,
         stamp: 3,
         taken: None,
         sent: Some((Peer::Forward(1), "first")),
     },
     Row {
-        place: Place::Client,
+        place: ScriptNode::Client,
         event: Event::Get { client: 0 },
         stamp: 3,
         taken: Some(Taken {
@@ -85,7 +85,7 @@ pub const ROWS: &[Row] = &[
         sent: None,
     },
     Row {
-        place: Place::East,
+        place: ScriptNode::East,
         event: TAKE,
         stamp: 4,
         taken: Some(Taken {
@@ -97,7 +97,7 @@ pub const ROWS: &[Row] = &[
         sent: Some((Peer::Back(0), "answer")),
     },
     Row {
-        place: Place::West,
+        place: ScriptNode::West,
         event: Event::Receipt {
             topic: 0,
             source: 0,
@@ -114,14 +114,14 @@ pub const ROWS: &[Row] = &[
         sent: None,
     },
     Row {
-        place: Place::West,
+        place: ScriptNode::West,
         event: READ,
         stamp: 6,
         taken: None,
         sent: Some((Peer::Forward(1), "second")),
     },
     Row {
-        place: Place::East,
+        place: ScriptNode::East,
         event: TAKE,
         stamp: 7,
         taken: Some(Taken {
@@ -189,27 +189,27 @@ impl Histories {
         Ok(())
     }
 
-    fn add(&mut self, place: Place, done: Done) -> Result<(), Memory> {
+    fn add(&mut self, place: ScriptNode, done: Done) -> Result<(), Memory> {
         match place {
-            Place::West => self.west.push(done)?,
-            Place::East => self.east.push(done)?,
-            Place::Client => self.client.push(done)?,
+            ScriptNode::West => self.west.push(done)?,
+            ScriptNode::East => self.east.push(done)?,
+            ScriptNode::Client => self.client.push(done)?,
         }
         Ok(())
     }
 
-    /// Books with these configurations and numbers.
-    pub fn books<'a>(
+    /// Logs with these configurations and numbers.
+    pub fn logs<'a>(
         &'a self,
         alloc: Global,
         configs: &'a Configs,
         numbers: [u32; 3],
-    ) -> Result<Vec<Book<'a>>, Memory> {
-        let mut books = Vec::new(alloc);
-        books.push(Book::new(&configs.west, numbers[0], self.west.as_slice()))?;
-        books.push(Book::new(&configs.east, numbers[1], self.east.as_slice()))?;
-        books.push(Book::new(&configs.client, numbers[2], self.client.as_slice()))?;
-        Ok(books)
+    ) -> Result<Vec<LogRef<'a>>, Memory> {
+        let mut logs = Vec::new(alloc);
+        logs.push(LogRef::new(&configs.west, numbers[0], self.west.as_slice()))?;
+        logs.push(LogRef::new(&configs.east, numbers[1], self.east.as_slice()))?;
+        logs.push(LogRef::new(&configs.client, numbers[2], self.client.as_slice()))?;
+        Ok(logs)
     }
 }
 
@@ -292,7 +292,7 @@ fn packet(
     })
 }
 
-/// The merge of what the rows say, where some are wrong, in books with these configurations and numbers.
+/// The merge of what the rows say, where some are wrong, in logs with these configurations and numbers.
 pub fn merge_of(
     alloc: Global,
     scenario: &Arc<Scenario>,
@@ -313,14 +313,14 @@ fn merge_in(
     configs: &Configs,
     numbers: [u32; 3],
 ) -> Result<Merged, Memory> {
-    let books = histories.books(alloc, configs, numbers)?;
-    merged(alloc, scenario, books.as_slice())
+    let logs = histories.logs(alloc, configs, numbers)?;
+    merged(alloc, scenario, logs.as_slice())
 }
 
-/// The merge of books; want of memory where they are not as many as the scenario has nodes.
-fn merged(alloc: Global, scenario: &Arc<Scenario>, books: &[Book<'_>]) -> Result<Merged, Memory> {
-    if books.len() == nodes_of(scenario) {
-        merge_books(alloc, scenario, books)
+/// The merge of logs; want of memory where they are not as many as the scenario has nodes.
+fn merged(alloc: Global, scenario: &Arc<Scenario>, logs: &[LogRef<'_>]) -> Result<Merged, Memory> {
+    if logs.len() == nodes_of(scenario) {
+        merge_logs(alloc, scenario, logs)
     } else {
         Err(Memory)
     }

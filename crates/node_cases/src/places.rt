@@ -1,5 +1,5 @@
 //! An event whose packets do not all fit is not done.
-use crate::books::{Books, act, add_client, events_of, next_of, scenario};
+use crate::logs::{Logs, act, add_client, events_of, next_of, scenario};
 use geo_base::{Event, Memory, Peer};
 use script_text::Scenario;
 use std::alloc::Global;
@@ -18,11 +18,11 @@ const ROWS: &[(bool, u32, bool, usize)] = &[
     (false, 2, true, 4),
 ];
 
-/// The first row at which the book is another than it says; the number of rows where there is none.
-fn first_wrong(alloc: Global, books: &mut Books) -> Result<usize, Memory> {
+/// The first row at which the log is another than it says; the number of rows where there is none.
+fn first_wrong(alloc: Global, logs: &mut Logs) -> Result<usize, Memory> {
     for (number, &(is_again, taken, is_done, events)) in ROWS.iter().enumerate() {
         for _ in 0..taken {
-            if next_of(books, 0, Peer::Broker(0)).is_none() {
+            if next_of(logs, 0, Peer::Broker(0)).is_none() {
                 return Ok(number);
             }
         }
@@ -31,7 +31,7 @@ fn first_wrong(alloc: Global, books: &mut Books) -> Result<usize, Memory> {
         } else {
             Event::Go { client: 0 }
         };
-        if act(alloc, books, 0, &event)? != is_done || events_of(books, 0) != events {
+        if act(alloc, logs, 0, &event)? != is_done || events_of(logs, 0) != events {
             return Ok(number);
         }
     }
@@ -39,18 +39,18 @@ fn first_wrong(alloc: Global, books: &mut Books) -> Result<usize, Memory> {
 }
 
 /// The number of the rows that are right.
-fn tell(alloc: Global, scenario: &Arc<Scenario>, books: &mut Books) -> Result<usize, Memory> {
-    add_client(alloc, scenario, 0, 2, books)?;
-    first_wrong(alloc, books)
+fn tell(alloc: Global, scenario: &Arc<Scenario>, logs: &mut Logs) -> Result<usize, Memory> {
+    add_client(alloc, scenario, 0, 2, logs)?;
+    first_wrong(alloc, logs)
 }
 
 #[test]
 fn a_full_end_holds_an_event(rt: HostRuntime) -> Result<(), Fail> {
     let alloc = rt.alloc();
     let scenario = scenario(alloc)?;
-    let mut books = Vec::new(alloc);
-    let right = tell(alloc, &scenario, &mut books);
-    drop(books);
+    let mut logs = Vec::new(alloc);
+    let right = tell(alloc, &scenario, &mut logs);
+    drop(logs);
     drop(scenario);
     assert_eq!(rt; right?, 6);
     Ok(())

@@ -9,7 +9,7 @@ const SCRIPT: &[u8] =
     b"geo 1\ncluster a\ncluster b\ntopic t\nclient c t a\ndo c sub s exclusive earliest replicated\n";
 
 const WANTED: &[Role] = &[
-    Role::Sender(Link {
+    Role::Replicator(Link {
         topic: 0,
         source: 0,
         target: 1,
@@ -19,7 +19,7 @@ const WANTED: &[Role] = &[
         source: 0,
         target: 1,
     }),
-    Role::Sender(Link {
+    Role::Replicator(Link {
         topic: 0,
         source: 1,
         target: 0,

@@ -1,7 +1,7 @@
 //! A message is published at a broker, node by node.
-use crate::books::{Books, act, add_broker, add_client, carry, events_of, scenario, stamp_of};
+use crate::logs::{Logs, act, add_broker, add_client, carry, events_of, scenario, stamp_of};
 use geo_base::{Event, Memory, Peer};
-use node_book::NodeState;
+use node_log::NodeState;
 use script_text::Scenario;
 use std::alloc::Global;
 use std::sync::Arc;
@@ -42,55 +42,55 @@ const ROWS: &[(bool, Event, bool, u64)] = &[
     (false, RESET, true, 9),
 ];
 
-/// The books of the two nodes by number.
+/// The logs of the two nodes by number.
 const CLIENT: usize = 0;
 
 const BROKER: usize = 1;
 
-/// The first row at which the books are another than it says; the number of rows where there is none.
-fn first_wrong(alloc: Global, books: &mut Books) -> Result<usize, Memory> {
+/// The first row at which the logs are another than it says; the number of rows where there is none.
+fn first_wrong(alloc: Global, logs: &mut Logs) -> Result<usize, Memory> {
     for (number, &(is_client, event, is_done, stamp)) in ROWS.iter().enumerate() {
         let node = if is_client { CLIENT } else { BROKER };
-        if act(alloc, books, node, &event)? != is_done || stamp_of(books, node) != stamp {
+        if act(alloc, logs, node, &event)? != is_done || stamp_of(logs, node) != stamp {
             return Ok(number);
         }
-        carry(books, (CLIENT, Peer::Broker(0)), (BROKER, Peer::Client(0)))?;
-        carry(books, (BROKER, Peer::Client(0)), (CLIENT, Peer::Broker(0)))?;
+        carry(logs, (CLIENT, Peer::Broker(0)), (BROKER, Peer::Client(0)))?;
+        carry(logs, (BROKER, Peer::Client(0)), (CLIENT, Peer::Broker(0)))?;
     }
     Ok(ROWS.len())
 }
 
 /// How many receipts the client has.
-fn receipts(books: &Books) -> u64 {
-    let Some(book) = books.get(CLIENT) else {
+fn receipts(logs: &Logs) -> u64 {
+    let Some(log) = logs.get(CLIENT) else {
         return 0;
     };
-    match book.state() {
+    match log.state() {
         NodeState::Client(own) => own.client.view().receipts,
         NodeState::Broker(_) => 0,
     }
 }
 
-/// The number of a node; that of none where there is no such book.
-fn number_of(books: &Books, number: usize) -> u32 {
-    match books.get(number) {
-        Some(book) => book.number(),
+/// The number of a node; that of none where there is no such log.
+fn number_of(logs: &Logs, number: usize) -> u32 {
+    match logs.get(number) {
+        Some(log) => log.number(),
         None => u32::MAX,
     }
 }
 
 /// The numbers of the rows that are right, of the client's receipts, of both nodes' events, and of the nodes.
-fn tell(alloc: Global, scenario: &Arc<Scenario>, books: &mut Books) -> Result<[u64; 6], Memory> {
-    add_client(alloc, scenario, 0, 8, books)?;
-    add_broker(alloc, scenario, 0, 8, books)?;
-    let right = first_wrong(alloc, books)?;
+fn tell(alloc: Global, scenario: &Arc<Scenario>, logs: &mut Logs) -> Result<[u64; 6], Memory> {
+    add_client(alloc, scenario, 0, 8, logs)?;
+    add_broker(alloc, scenario, 0, 8, logs)?;
+    let right = first_wrong(alloc, logs)?;
     Ok([
         right as u64,
-        receipts(books),
-        events_of(books, CLIENT) as u64,
-        events_of(books, BROKER) as u64,
-        number_of(books, CLIENT) as u64,
-        number_of(books, BROKER) as u64,
+        receipts(logs),
+        events_of(logs, CLIENT) as u64,
+        events_of(logs, BROKER) as u64,
+        number_of(logs, CLIENT) as u64,
+        number_of(logs, BROKER) as u64,
     ])
 }
 
@@ -98,9 +98,9 @@ fn tell(alloc: Global, scenario: &Arc<Scenario>, books: &mut Books) -> Result<[u
 fn a_message_is_published(rt: HostRuntime) -> Result<(), Fail> {
     let alloc = rt.alloc();
     let scenario = scenario(alloc)?;
-    let mut books = Vec::new(alloc);
-    let told = tell(alloc, &scenario, &mut books);
-    drop(books);
+    let mut logs = Vec::new(alloc);
+    let told = tell(alloc, &scenario, &mut logs);
+    drop(logs);
     drop(scenario);
     assert!(rt; told? == [13, 1, 6, 4, 2, 0]);
     Ok(())

@@ -1,4 +1,4 @@
-//! Books that are not those of their places.
+//! Logs that are not those of their places.
 use crate::merging::{Configs, SCRIPT, merge_of};
 use geo_base::Memory;
 use merge_history::{Difference, Merged};
@@ -10,7 +10,7 @@ use std::test::Fail;
 /// Another client's name.
 const OTHER: &[u8] = b"geo 1\ncluster a\ncluster b\ntopic t\nclient q t a\n";
 
-/// The books' numbers by place, which of them keeps the other script, the first strange place with the number of the book there,
+/// The logs' numbers by place, which of them keeps the other script, the first strange place with the number of the log there,
 /// and how many steps are left.
 type Case = ([u32; 3], u32, u32, u32, usize);
 
@@ -23,7 +23,7 @@ const CASES: &[Case] = &[
 ];
 
 #[test]
-fn the_first_strange_book_is_told(rt: HostRuntime) -> Result<(), Fail> {
+fn the_first_strange_log_is_told(rt: HostRuntime) -> Result<(), Fail> {
     let alloc = rt.alloc();
     let scenario = Arc::new(alloc, read_script(alloc, SCRIPT)?)?;
     let other = Arc::new(alloc, read_script(alloc, OTHER)?)?;
@@ -48,7 +48,7 @@ fn first_other(
     Ok(None)
 }
 
-/// Whether the first strange book of a case is told, and so many steps are left.
+/// Whether the first strange log of a case is told, and so many steps are left.
 fn is_case(
     alloc: Global,
     scenario: &Arc<Scenario>,
@@ -83,7 +83,7 @@ fn configs_of(
     })
 }
 
-/// Whether the first strange book is at a place, and has this number and keeps this scenario.
+/// Whether the first strange log is at a place, and has this number and keeps this scenario.
 fn is_told(
     alloc: Global,
     merge: &Merged,

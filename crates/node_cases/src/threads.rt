@@ -6,8 +6,8 @@ use geo_base::{EntryStore, Memory};
 use geo_io::{Gate, OpenGate};
 use link_rings::RingEnd;
 use live_run::live;
-use merge_history::{Book, merge_books};
-use node_book::{BookList, NodeBook, NodeState};
+use merge_history::{LogRef, merge_logs};
+use node_log::{NodeLog, NodeLogs, NodeState};
 use script_text::{Scenario, read_script};
 use std::alloc::Global;
 use std::sync::atomic::{AtomicBool, Ordering};
@@ -15,7 +15,7 @@ use std::sync::{Arc, Wait};
 use std::test::Fail;
 use std::thread::{self, Threads};
 
-/// Two clusters, a producer and a consumer: actor 0 is the sender from a to b, and actor 7 the dispatcher at b.
+/// Two clusters, a producer and a consumer: actor 0 is the replicator from a to b, and actor 7 the dispatcher at b.
 const SCRIPT: &[u8] =
     b"geo 1\ncluster a\ncluster b\ntopic t\nclient p t a\nclient c t b\ndo p produce\ndo p pub 0 * - one\ndo p pub 1 * - two\ndo p pub 2 * - three\ndo c sub s exclusive earliest replicated\ndo c flow 10\n";
 
@@ -26,11 +26,11 @@ const DISPATCHER: u32 = 7;
 /// How often a held turn looks for the other one before it gives up.
 const LOOKS: u64 = 100_000_000;
 
-/// A gate that holds the first turn of the sender until the dispatcher has one, and the other way round. They meet only where each
+/// A gate that holds the first turn of the replicator until the dispatcher has one, and the other way round. They meet only where each
 /// has a thread of its own.
 #[derive(Drop)]
 struct Meeting {
-    sender: AtomicBool,
+    replicator: AtomicBool,
     dispatcher: AtomicBool,
     gave_up: AtomicBool,
 }
@@ -54,10 +54,10 @@ impl Meeting {
 impl Gate for Meeting {
     fn pass(&self, worker: u32, actor: u32, _turn: u64) {
         if worker == 0 && actor == SENDER {
-            self.meet(&self.sender, &self.dispatcher);
+            self.meet(&self.replicator, &self.dispatcher);
         }
         if worker == 1 && actor == DISPATCHER {
-            self.meet(&self.dispatcher, &self.sender);
+            self.meet(&self.dispatcher, &self.replicator);
         }
     }
 }
@@ -67,29 +67,29 @@ fn two_workers_run_side_by_side(rt: HostRuntime) -> Result<(), Fail> {
     let alloc = rt.alloc();
     let scenario = Arc::new(alloc, read_script(alloc, SCRIPT)?)?;
     let gate = Meeting {
-        sender: AtomicBool::new(false),
+        replicator: AtomicBool::new(false),
         dispatcher: AtomicBool::new(false),
         gave_up: AtomicBool::new(false),
     };
-    let books = books_made(&rt, alloc, &scenario, &gate);
+    let logs = logs_made(&rt, alloc, &scenario, &gate);
     let gave_up = gate.gave_up.load(Ordering::SeqCst);
     drop(gate);
     drop(scenario);
     assert!(rt; !gave_up, "side by side");
-    assert_eq!(rt; books?, 4);
+    assert_eq!(rt; logs?, 4);
     Ok(())
 }
 
-/// How many books two workers make that go through a gate.
-fn books_made<R: Threads + Wait + Sync>(
+/// How many logs two workers make that go through a gate.
+fn logs_made<R: Threads + Wait + Sync>(
     rt: &R,
     alloc: Global,
     scenario: &Arc<Scenario>,
     gate: &Meeting,
 ) -> Result<usize, Memory> {
-    let books = live(rt, alloc, scenario, 2, 200, gate)?;
-    let count = books.as_slice().len();
-    books.let_go();
+    let logs = live(rt, alloc, scenario, 2, 200, gate)?;
+    let count = logs.as_slice().len();
+    logs.let_go();
     Ok(count)
 }
 
@@ -106,7 +106,7 @@ fn what_is_taken_was_sent_however_threads_run(rt: HostRuntime) -> Result<(), Fai
     Ok(())
 }
 
-/// The workers of the first run whose books do not fit together.
+/// The workers of the first run whose logs do not fit together.
 fn first_other<R: Threads + Wait + Sync>(
     rt: &R,
     alloc: Global,
@@ -120,7 +120,7 @@ fn first_other<R: Threads + Wait + Sync>(
     Ok(None)
 }
 
-/// Whether the books of a run fit together.
+/// Whether the logs of a run fit together.
 fn run_fits<R: Threads + Wait + Sync>(
     rt: &R,
     alloc: Global,
@@ -130,26 +130,26 @@ fn run_fits<R: Threads + Wait + Sync>(
 ) -> Result<bool, Memory>
     requires { 0 < workers }
 {
-    let books = live(rt, alloc, scenario, workers, turns, &OpenGate)?;
-    let fits = fit_together(alloc, scenario, &books);
-    books.let_go();
+    let logs = live(rt, alloc, scenario, workers, turns, &OpenGate)?;
+    let fits = fit_together(alloc, scenario, &logs);
+    logs.let_go();
     fits
 }
 
-/// Whether the books are those of the scenario's nodes in their order, and each packet that one took is the one that another sent.
+/// Whether the logs are those of the scenario's nodes in their order, and each packet that one took is the one that another sent.
 fn fit_together(
     alloc: Global,
     scenario: &Arc<Scenario>,
-    books: &BookList<RingEnd>,
+    logs: &NodeLogs<RingEnd>,
 ) -> Result<bool, Memory> {
     let mut views = Vec::new(alloc);
-    for book in books.as_slice() {
-        views.push(Book::new(book.configuration(), book.number(), book.history()))?;
+    for log in logs.as_slice() {
+        views.push(LogRef::new(log.configuration(), log.number(), log.history()))?;
     }
     if views.len() != node_count(scenario) as usize {
         return Ok(false);
     }
-    let merged = merge_books(alloc, scenario, views.as_slice())?;
+    let merged = merge_logs(alloc, scenario, views.as_slice())?;
     let is_right = merged.differs.is_none();
     drop(merged);
     Ok(is_right)
@@ -159,9 +159,9 @@ fn fit_together(
 const STORY: &[u8] =
     b"geo 1\ncluster a\ncluster b\ntopic t\nclient p t a\ndo p produce\ndo p pub 0 * - one\ndo p pub 1 * - two\ndo p pub 2 * - three\n";
 
-/// How many entries the book of a broker has, or how many receipts that of a client.
-fn stored(book: &NodeBook<RingEnd>) -> u64 {
-    match book.state() {
+/// How many entries the log of a broker has, or how many receipts that of a client.
+fn stored(log: &NodeLog<RingEnd>) -> u64 {
+    match log.state() {
         NodeState::Broker(broker) => broker.store().len() as u64,
         NodeState::Client(state) => state.client.view().receipts,
     }
@@ -177,25 +177,25 @@ fn one_worker_brings_all_over(rt: HostRuntime) -> Result<(), Fail> {
     Ok(())
 }
 
-/// Whether the books of one worker have all, and fit together.
+/// Whether the logs of one worker have all, and fit together.
 fn brings_all<R: Threads + Wait + Sync>(
     rt: &R,
     alloc: Global,
     scenario: &Arc<Scenario>,
 ) -> Result<bool, Memory> {
-    let books = live(rt, alloc, scenario, 1, 2000, &OpenGate)?;
-    let has_three = have_three(books.as_slice());
-    let fits = fit_together(alloc, scenario, &books);
-    books.let_go();
+    let logs = live(rt, alloc, scenario, 1, 2000, &OpenGate)?;
+    let has_three = have_three(logs.as_slice());
+    let fits = fit_together(alloc, scenario, &logs);
+    logs.let_go();
     Ok(has_three && fits?)
 }
 
-/// Whether there are three books, each with three entries or receipts.
-fn have_three(books: &[NodeBook<RingEnd>]) -> bool {
-    for book in books {
-        if stored(book) != 3 {
+/// Whether there are three logs, each with three entries or receipts.
+fn have_three(logs: &[NodeLog<RingEnd>]) -> bool {
+    for log in logs {
+        if stored(log) != 3 {
             return false;
         }
     }
-    books.len() == 3
+    logs.len() == 3
 }

@@ -6,7 +6,7 @@ use actors::{Actor, Link, Role};
 use geo_base::{Event, Memory};
 use link_rings::RingEnd;
 use live_run::NodeRings;
-use node_book::NodeBook;
+use node_log::NodeLog;
 use script_text::{Scenario, read_script};
 use std::alloc::Global;
 use std::sync::Arc;
@@ -16,26 +16,23 @@ use std::test::Fail;
 const SCRIPT: &[u8] =
     b"geo 1\ncluster a\ncluster b\ntopic t\nclient p t a\ndo p produce\ndo p pub 0 * - hi\n";
 
-/// The book of the broker of the first topic at the first cluster, before any event.
-fn first_book(
-    alloc: Global,
-    scenario: &Arc<Scenario, Global>,
-) -> Result<NodeBook<RingEnd>, Memory> {
+/// The log of the broker of the first topic at the first cluster, before any event.
+fn first_log(alloc: Global, scenario: &Arc<Scenario, Global>) -> Result<NodeLog<RingEnd>, Memory> {
     let _known = scenario.topics();
     let mut rings = NodeRings::new(alloc, scenario)?;
     let ends = rings.broker(alloc, scenario, 0, 0);
     drop(rings);
     let ends = ends?;
     let shared = Arc::try_clone(scenario)?;
-    NodeBook::broker(alloc, shared, 0, 0, ends)
+    NodeLog::broker(alloc, shared, 0, 0, ends)
 }
 
-/// What an actor's first turn on that book was.
+/// What an actor's first turn on that log was.
 #[derive(Clone, Copy)]
 struct Turn {
     /// Whether it did something.
     did: bool,
-    /// How many events the book has then.
+    /// How many events the log has then.
     events: usize,
     /// The first of them.
     first: Option<Event>,
@@ -54,9 +51,9 @@ fn turn_of(
     actor: u32,
     role: Role,
 ) -> Result<Turn, Memory> {
-    let mut book = first_book(alloc, scenario)?;
-    let turn = turn_at(alloc, scenario, actor, role, &mut book);
-    book.let_go();
+    let mut log = first_log(alloc, scenario)?;
+    let turn = turn_at(alloc, scenario, actor, role, &mut log);
+    log.let_go();
     turn
 }
 
@@ -65,20 +62,20 @@ fn turn_at(
     scenario: &Arc<Scenario>,
     actor: u32,
     role: Role,
-    book: &mut NodeBook<RingEnd>,
+    log: &mut NodeLog<RingEnd>,
 ) -> Result<Turn, Memory> {
     let mut actor = Actor::new(scenario, actor, role);
-    let did = actor.turn(alloc, book)?;
+    let did = actor.turn(alloc, log)?;
     Ok(Turn {
         did,
-        events: book.history().len(),
-        first: book.history().first().map(|done| done.event),
+        events: log.history().len(),
+        first: log.history().first().map(|done| done.event),
     })
 }
 
 #[test]
-fn a_senders_first_turn_begins_a_session(rt: HostRuntime) -> Result<(), Fail> {
-    let role = Role::Sender(Link {
+fn a_replicators_first_turn_begins_a_session(rt: HostRuntime) -> Result<(), Fail> {
+    let role = Role::Replicator(Link {
         topic: 0,
         source: 0,
         target: 1,

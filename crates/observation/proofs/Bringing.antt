@@ -56,12 +56,12 @@ first_passing p (x ∷ xs) f fs h = by (p x) refl (first_passing p xs f fs) h
     tail (e ∷ es) = es
 
     by : (b : Bool) → p x ≡ b → (filter p xs ≡ f ∷ fs → FirstPassing p xs f fs) → cond b (x ∷ filter p xs) (filter p xs) ≡ f ∷ fs → FirstPassing p (x ∷ xs) f fs
-    by true passing rest is =
+    by true update_writes rest is =
         let same : x ≡ f = same_Some _ _ (ap (λ l. slice_get l zero) is) in
         record {
           place = zero;
           at = ap Some same;
-          passes = subst (λ (e : Entry). p e ≡ true) same passing;
+          passes = subst (λ (e : Entry). p e ≡ true) same update_writes;
           before = λ i e lt at. absurd (omega (arith, lt));
           after = ap tail is;
         }

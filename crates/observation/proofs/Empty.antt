@@ -7,6 +7,7 @@ use Rattle.std.proofs.lemmas.Option.{none-some, same_Some, slice_get_within}
 use Rattle.geo_base.specs.Setup.{Setup}
 use Rattle.observation.specs.declared.finding.Finding.{Finding}
 use Rattle.observation.specs.Findings.{by_cluster, by_other, by_topic, each_at, unless}
+pub use Rattle.geo_base.proofs.Lists.{get_of_take as of_take, get_some_below as there_is}
 
 pub both_empty : {A : Type 0} (xs ys : List A) → xs ++ ys ≡ [] → (xs ≡ []) × (ys ≡ [])
 both_empty [] ys h = (refl, h)
@@ -40,12 +41,6 @@ all_none f i (b ∷ xs) h =
 
 pub here_none : {A : Type 0} (f : ℕ → A → List Finding) (xs : List A) → ((k : ℕ) (a : A) → slice_get xs k ≡ Some a → f k a ≡ []) → each_at f 0 xs ≡ []
 here_none f xs h = all_none f 0 xs (λ k a at. let e : k ≡ 0 + k = omega arith in subst (λ (n : ℕ). f n a ≡ []) e (h k a at))
-
--- at each number below a list's length
-pub there_is : {A : Type 0} (xs : List A) (i : ℕ) → i < length xs → (a : A) × (slice_get xs i ≡ Some a)
-there_is [] i lt = absurd (omega (arith, lt))
-there_is (x ∷ xs) zero lt = (x, refl)
-there_is (x ∷ xs) (suc i) lt = there_is xs i (omega (arith, lt))
 
 numbered_none : {A : Type 0} (f : ℕ → List Finding) (xs : List A) (t : ℕ) → each_at (λ k a. f k) 0 xs ≡ [] → t < length xs → f t ≡ []
 numbered_none f xs t h lt = let a = there_is xs t lt in none_here (λ k a. f k) xs t a.0 h a.1
@@ -104,9 +99,3 @@ in_take zero xs i x lt at = absurd (omega (arith, lt))
 in_take (suc n) [] i x lt at = absurd (none-some x at)
 in_take (suc n) (a ∷ xs) zero x lt at = at
 in_take (suc n) (a ∷ xs) (suc i) x lt at = in_take n xs i x (omega (arith, lt)) at
-
-pub of_take : {X : Type 0} (n : ℕ) (xs : List X) (i : ℕ) (x : X) → slice_get (take n xs) i ≡ Some x → (i < n) × (slice_get xs i ≡ Some x)
-of_take zero xs i x at = absurd (none-some x at)
-of_take (suc n) [] i x at = absurd (none-some x at)
-of_take (suc n) (a ∷ xs) zero x at = (omega arith, at)
-of_take (suc n) (a ∷ xs) (suc i) x at = let r = of_take n xs i x at in (let lt = r.0 in omega (arith, lt), r.1)

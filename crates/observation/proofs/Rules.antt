@@ -13,7 +13,7 @@ use Rattle.geo_base.specs.declared.marker.Marker.TheVariants as marker
 use Rattle.geo_base.specs.declared.position.Position.{Position}
 use Rattle.geo_base.specs.Audit.{names_each, position_named, same_entry}
 use Rattle.geo_base.specs.Cursor.{has}
-use Rattle.geo_base.specs.Entry.{is_data, is_outbound, is_place, meant_for, same_ident, same_stream}
+use Rattle.geo_base.specs.Entry.{is_data, is_outbound, means_cluster, meant_for, same_ident, same_stream}
 use Rattle.geo_base.specs.Mirror.{MirrorSub, index_at}
 use Rattle.geo_base.specs.Setup.{Setup}
 use Rattle.geo_base.specs.Topic.{accepts}
@@ -26,12 +26,9 @@ use Rattle.observation.specs.Observed.{Observation, entries_seen, is_dealt_with,
 use Rattle.observation.specs.Safe.{AreAlike, Begins, CoversAt, IsBrought, IsCovered, IsCutSeen, IsReceived, IsStored, OnceIn, Stands, TellsAt, TellsSettled, came_from, common, is_common, went_to}
 use Rattle.observation.proofs.Bringing.{begins_brought, brought_begins}
 use Rattle.observation.proofs.Empty.{all_at, all_of, here_none, held, in_take, none_here, not_empty, of_take, other_none, others_none, unless_held}
+use Rattle.geo_base.proofs.Bools.{or_cases}
 
 -- ---- tests
-
-either : (a b : Bool) → (a || b) ≡ true → (a ≡ true) ⊎ (b ≡ true)
-either true b h = inl refl
-either false b h = inr h
 
 -- one of two, where the first is not
 other_one : (a b : Bool) → (not a || b) ≡ true → a ≡ true → b ≡ true
@@ -45,7 +42,7 @@ if_first false b h = refl
 any_at : {X : Type 0} (p : X → Bool) (xs : List X) → list_any p xs ≡ true → (i : ℕ) × (x : X) × (slice_get xs i ≡ Some x) × (p x ≡ true)
 any_at p [] h = absurd (false≢true h)
 any_at p (a ∷ xs) h =
-    elim (either (p a) (list_any p xs) h) [
+    elim (or_cases (p a) (list_any p xs) h) [
       | inl e ↦ (zero, a, refl, e)
       | inr l ↦ let r = any_at p xs l in (suc r.0, r.1, r.2, r.3)
     ]
@@ -68,7 +65,7 @@ lost_none s o t k g p h at =
     let here : lost_in s o t (said.Receipt t g p) ≡ [] = none_here (λ (n : ℕ) (l : Said). lost_in s o t l) o.said k (said.Receipt t g p) h at in
     let own : unless (is_stored s o t g p) (finding.Lost t g p) ≡ [] =
     subst (λ (b : Bool). cond b (unless (is_stored s o t g p) (finding.Lost t g p)) [] ≡ []) (eq-eqb t t refl) here in
-    elim (either (may_be_later s o t g.origin p) _ (held (is_stored s o t g p) (finding.Lost t g p) own)) [
+    elim (or_cases (may_be_later s o t g.origin p) _ (held (is_stored s o t g p) (finding.Lost t g p) own)) [
       | inl later ↦ inl later
       | inr any ↦ let r = any_at (λ (e : Entry). same_ident e.ident g) (entries_seen s o t g.origin) any in inr (r.0, r.1, r.2, r.3)
     ]
@@ -320,7 +317,7 @@ covers_is : (s : Setup) (o : Observation) (t x l y : ℕ) (remote : List Cluster
     → IsCovered s o t x l y remote
 covers_is s o t x l y remote None named h = absurd (false≢true h)
 covers_is s o t x l y remote (Some p) named h =
-    (p, named, elim (either (may_be_later s o t y p) _ h) [ inl later ↦ inl later | inr all ↦ inr (at (index_at (topic_seen s o t y) p) refl all) ])
+    (p, named, elim (or_cases (may_be_later s o t y p) _ h) [ inl later ↦ inl later | inr all ↦ inr (at (index_at (topic_seen s o t y) p) refl all) ])
   where
     at : (j : Option ℕ) → index_at (topic_seen s o t y) p ≡ j → are_covered x (entries_seen s o t x) l (entries_seen s o t y) j ≡ true → CoversAt s o t x l y p
     at None is all = absurd (false≢true all)
@@ -409,7 +406,7 @@ none_cuts s o t x h = here_none (λ (n : ℕ) (d : Entry). cuts_of s o t x n d d
 -- ---- told
 
 tells_is : (s : Setup) (o : Observation) (t a : ℕ) (n : List ℕ) (y : ℕ) (p : Position) → tells_one s o t a n y p ≡ true → (may_be_later s o t y p ≡ true) ⊎ TellsAt s o t a n y p
-tells_is s o t a n y p h = elim (either (may_be_later s o t y p) _ h) [ inl later ↦ inl later | inr all ↦ inr (at (index_at (topic_seen s o t y) p) refl all) ]
+tells_is s o t a n y p h = elim (or_cases (may_be_later s o t y p) _ h) [ inl later ↦ inl later | inr all ↦ inr (at (index_at (topic_seen s o t y) p) refl all) ]
   where
     at : (j : Option ℕ) → index_at (topic_seen s o t y) p ≡ j → tells_upto s o t a n (entries_seen s o t y) j ≡ true → TellsAt s o t a n y p
     at None is all = absurd (false≢true all)
@@ -439,8 +436,8 @@ told_none s o t x i e n remote h at is k y r atr lt differ place =
     let here : told_in s o t x i e e.content ≡ [] = none_here (λ (m : ℕ) (d : Entry). told_in s o t x m d d.content) (entries_seen s o t x) i e h at in
     let update : told_in s o t x i e (content.Marked (marker.Update n remote)) ≡ [] = subst (λ (c : Content). told_in s o t x i e c ≡ []) is here in
     let one : told_of s o t x i a n r ≡ [] = none_here (λ (m : ℕ) (q : ClusterPosition). told_of s o t x i a n q) remote k r update atr in
-    let of_y : cond (is_place y r.cluster) (unless (tells_one s o t a n y r.position) (finding.Told t x i y)) [] ≡ [] =
-    other_none s a (λ (z : ℕ). if is_place z r.cluster then unless (tells_one s o t a n z r.position) (finding.Told t x i z) else []) y one lt (λ same. differ (sym same)) in
+    let of_y : cond (means_cluster y r.cluster) (unless (tells_one s o t a n y r.position) (finding.Told t x i y)) [] ≡ [] =
+    other_none s a (λ (z : ℕ). if means_cluster z r.cluster then unless (tells_one s o t a n z r.position) (finding.Told t x i z) else []) y one lt (λ same. differ (sym same)) in
     tells_is s o t a n y r.position
     (held (tells_one s o t a n y r.position) (finding.Told t x i y)
     (subst (λ (b : Bool). cond b (unless (tells_one s o t a n y r.position) (finding.Told t x i y)) [] ≡ []) place of_y))
@@ -452,7 +449,7 @@ unfolding told
 none_told s o t x h = here_none (λ (m : ℕ) (d : Entry). told_in s o t x m d d.content) (entries_seen s o t x) (λ i e at. each i e e.content at refl)
   where
     by : (i : ℕ) (e : Entry) (n : List ℕ) (remote : List ClusterPosition) → TellsSettled s o t e.ident.origin n remote → (k : ℕ) (r : ClusterPosition) → slice_get remote k ≡ Some r
-        → (y : ℕ) (b : Bool) → y < length s.clusters → e.ident.origin ≢ y → is_place y r.cluster ≡ b
+        → (y : ℕ) (b : Bool) → y < length s.clusters → e.ident.origin ≢ y → means_cluster y r.cluster ≡ b
         → cond b (unless (tells_one s o t e.ident.origin n y r.position) (finding.Told t x i y)) [] ≡ []
     by i e n remote all k r atr y true lt differ place =
         unless_held (tells_one s o t e.ident.origin n y r.position) (finding.Told t x i y)
@@ -463,8 +460,8 @@ none_told s o t x h = here_none (λ (m : ℕ) (d : Entry). told_in s o t x m d d
     each i e (content.Marked (marker.Update n remote)) at is =
         let a = e.ident.origin in let all = h i e n remote at is in
         here_none (λ (m : ℕ) (q : ClusterPosition). told_of s o t x i a n q) remote
-        (λ k r atr. others_none s a (λ (z : ℕ). if is_place z r.cluster then unless (tells_one s o t a n z r.position) (finding.Told t x i z) else [])
-        (λ y lt differ. by i e n remote all k r atr y (is_place y r.cluster) lt differ refl))
+        (λ k r atr. others_none s a (λ (z : ℕ). if means_cluster z r.cluster then unless (tells_one s o t a n z r.position) (finding.Told t x i z) else [])
+        (λ y lt differ. by i e n remote all k r atr y (means_cluster y r.cluster) lt differ refl))
     each i e (content.Marked (marker.Request id a)) at is = refl
     each i e (content.Marked (marker.Response id a)) at is = refl
     each i e (content.Marked (marker.Snapshot id l r)) at is = refl

@@ -10,7 +10,7 @@ use Rattle.geo_base.specs.declared.marker.Marker.TheVariants as marker
 use Rattle.geo_base.specs.declared.position.Position.{Position}
 use Rattle.geo_base.specs.Audit.{names_each, position_named, same_entry}
 use Rattle.geo_base.specs.Cursor.{has}
-use Rattle.geo_base.specs.Entry.{is_data, is_outbound, is_place, meant_for, same_ident}
+use Rattle.geo_base.specs.Entry.{is_data, is_outbound, means_cluster, meant_for, same_ident}
 use Rattle.geo_base.specs.Mirror.{MirrorSub, index_at}
 use Rattle.geo_base.specs.Setup.{Setup}
 use Rattle.geo_base.specs.Topic.{accepts}
@@ -188,7 +188,7 @@ abbrev pub tells_one : Setup → Observation → (t a : ℕ) → List ℕ → �
 tells_one s o t a n y p = may_be_later s o t y p || tells_upto s o t a n (entries_seen s o t y) (index_at (topic_seen s o t y) p)
 
 abbrev pub told_of : Setup → Observation → (t x i a : ℕ) → List ℕ → ClusterPosition → List Finding
-told_of s o t x i a n r = by_other s a (λ y. if is_place y r.cluster then unless (tells_one s o t a n y r.position) (finding.Told t x i y) else [])
+told_of s o t x i a n r = by_other s a (λ y. if means_cluster y r.cluster then unless (tells_one s o t a n y r.position) (finding.Told t x i y) else [])
 
 abbrev pub told_in : Setup → Observation → (t x i : ℕ) → Entry → Content → List Finding
 told_in s o t x i e (content.Marked (marker.Update n remote)) = each_at (λ k r. told_of s o t x i e.ident.origin n r) 0 remote

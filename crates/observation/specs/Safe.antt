@@ -9,7 +9,7 @@ use Rattle.geo_base.specs.declared.marker.Marker.TheVariants as marker
 use Rattle.geo_base.specs.declared.position.Position.{Position}
 use Rattle.geo_base.specs.Audit.{names_each, position_named, same_entry}
 use Rattle.geo_base.specs.Cursor.{has}
-use Rattle.geo_base.specs.Entry.{is_data, is_outbound, is_place, meant_for, same_ident, same_stream}
+use Rattle.geo_base.specs.Entry.{is_data, is_outbound, means_cluster, meant_for, same_ident, same_stream}
 use Rattle.geo_base.specs.Laws.{of_origin, outbound}
 use Rattle.geo_base.specs.Mirror.{MirrorSub, index_at}
 use Rattle.geo_base.specs.Setup.{Setup}
@@ -82,7 +82,7 @@ TellsAt s o t a n y p = (j : ℕ) × (index_at (topic_seen s o t y) p ≡ Some j
     × ((k : ℕ) (f : Entry) → k ≤ j → Stands s o t y k f → meant_for a f ≡ true → is_dealt_with s o t n f ≡ true)
 
 abbrev pub TellsSettled : Setup → Observation → (t a : ℕ) → List ℕ → List ClusterPosition → Type 0
-TellsSettled s o t a n remote = (k y : ℕ) (r : ClusterPosition) → slice_get remote k ≡ Some r → y < length s.clusters → y ≢ a → is_place y r.cluster ≡ true
+TellsSettled s o t a n remote = (k y : ℕ) (r : ClusterPosition) → slice_get remote k ≡ Some r → y < length s.clusters → y ≢ a → means_cluster y r.cluster ≡ true
     → (may_be_later s o t y r.position ≡ true) ⊎ TellsAt s o t a n y r.position
 
 -- ---- all of it

@@ -1,7 +1,7 @@
 //! What is found against an observation.
 use geo_base::{Ident, Position, Text};
 
-/// One finding: a fault that no run of the machine leaves behind. Indexes count the entries of a topic at a cluster from 0.
+/// One finding: a fault that no run of the machine leaves after. Indexes count the entries of a topic at a cluster from 0.
 #[derive(Drop)]
 pub enum Finding {
     /// A producer has a receipt for a message that does not stand in the topic of its cluster.

@@ -7,13 +7,13 @@ use Rattle.std.proofs.lemmas.List.{append-nil}
 use Rattle.std.proofs.lemmas.List.Elements.{filter-append, filter_agree}
 use Rattle.std.proofs.lemmas.Option.{none-some, same_Some}
 use Rattle.world_laws.proofs.Types.{Entry, Ident, Position, Step}
-use Rattle.geo_base.specs.Broker.{sender_at}
+use Rattle.geo_base.specs.Broker.{replicator_at}
 use Rattle.geo_base.specs.Cursor.{has}
 use Rattle.geo_base.specs.Entry.{goes_to, is_data, is_outbound, meant_for, same_ident}
 use Rattle.geo_base.specs.Audit.{same_entry}
 use Rattle.geo_base.specs.Laws.{ArePair, of_origin, outbound}
 use Rattle.geo_base.specs.Mirror.{MirrorSub}
-use Rattle.geo_base.specs.Position.{nowhere, same_position}
+use Rattle.geo_base.specs.Position.{no_position, same_position}
 use Rattle.geo_base.specs.Run.{run}
 use Rattle.geo_base.specs.Settled.{settled}
 use Rattle.geo_base.specs.Topic.{index_of}
@@ -211,8 +211,8 @@ pub received_seen : (s : Setup) (es : List Step) (r : Reading) (logs : List Said
     → r.read (node s t x) ≡ true → r.read (node s t y) ≡ true → IsReceived s (observation_of s es r logs) t x y
 received_seen s es r logs t x y read there_x there_y differ read_x read_y i e has_it at out =
     let c = r.cursors (node s t x) in let w = after s es c in let b = early s es r t x in
-    let cursor : has (sender_at b y).cursor i ≡ true = subst (λ (l : List ℕ). has l i ≡ true) received has_it in
-    let within : i < length b.entries = ((indexes s (opening_world s) w (opening_starts s) (reached s (take c es)) (node s t x)).senders y).acked i cursor in
+    let cursor : has (replicator_at b y).cursor i ≡ true = subst (λ (l : List ℕ). has l i ≡ true) received has_it in
+    let within : i < length b.entries = ((indexes s (opening_world s) w (opening_starts s) (reached s (take c es)) (node s t x)).replicators y).acked i cursor in
     let more = grown s read.scripted es c (r.entries (node s t x)) (read.first (node s t x) (node s t x)) t x there_x in
     let stands : IsEntry b i e =
     sym (get_within b.entries more.more i within) ∙ subst (λ (l : List Entry). slice_get l i ≡ Some e) more.is (stands_there s es r logs t x i e there_x at).at in
@@ -222,10 +222,10 @@ received_seen s es r logs t x y read there_x there_y differ read_x read_y i e ha
     subst (λ (l : List Entry). slice_get l came.0 ≡ Some e) (sym later.is) (get_left (topic_at s w t y).entries later.more came.0 e came.1) in
     (came.0, stands_seen s es r logs t y came.0 e there_y read_y there)
   where
-    received : received_at s (observation_of s es r logs) t x y ≡ (sender_at (early s es r t x) y).cursor
+    received : received_at s (observation_of s es r logs) t x y ≡ (replicator_at (early s es r t x) y).cursor
     received =
         ap (λ (v : Seen). slice_index_or v.received y []) (seen_there s es r logs t x there_x read_x)
-        ∙ made_here (λ (z : ℕ). (sender_at (early s es r t x) z).cursor) [] (length s.clusters) y there_y.1
+        ∙ made_here (λ (z : ℕ). (replicator_at (early s es r t x) z).cursor) [] (length s.clusters) y there_y.1
 
 -- ---- stored
 
@@ -258,7 +258,7 @@ stored_seen s es r logs t k g p read topic at = go (read.receipts k t g p at)
         let held = ((published_always s read.scripted).run es).receipts w.client w.cluster w.place w.packet w.id w.seq (Some p) w.declared w.there w.sent w.is in
         let d = declared_at s w.client in
         let same : held.1.position ≡ p = same_Some _ _ (sym held.1.told) in
-        let stands = held.1.stored (subst (λ (q : Position). same_position q nowhere ≡ false) (sym same) w.stored) in
+        let stands = held.1.stored (subst (λ (q : Position). same_position q no_position ≡ false) (sym same) w.stored) in
         let at_p : StandsAt (topic_at s (run s es) d.topic w.cluster) (ident_of d w.seq) p =
         subst (λ (q : Position). StandsAt (topic_at s (run s es) d.topic w.cluster) (ident_of d w.seq) q) same stands in
         let at_g : StandsAt (topic_at s (run s es) d.topic w.cluster) g p = subst (λ (i : Ident). StandsAt (topic_at s (run s es) d.topic w.cluster) i p) w.of at_p in

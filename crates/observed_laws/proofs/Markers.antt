@@ -5,15 +5,15 @@ use Rattle.std.specs.List.{list_any}
 use Rattle.std.proofs.lemmas.Bool.{and_parts, eq-eqb, false≢true}
 use Rattle.std.proofs.lemmas.List.{get_or-replicate, get_or-set_other, length-replicate, length-set}
 use Rattle.std.proofs.lemmas.Option.{none-some, same_Some}
-use Rattle.world_laws.proofs.Types.{ClusterPosition, Cut, Entry, Place, Position, Step}
+use Rattle.world_laws.proofs.Types.{ClusterPosition, Cut, Entry, ClusterRef, Position, Step}
 use Rattle.world_laws.proofs.Types.content
 use Rattle.world_laws.proofs.Types.marker
-use Rattle.world_laws.proofs.Types.place
+use Rattle.world_laws.proofs.Types.cluster_ref
 use Rattle.geo_base.specs.Audit.{may_snapshot, names_each}
-use Rattle.geo_base.specs.Builder.{named}
+use Rattle.geo_base.specs.SnapshotBuilder.{named}
 use Rattle.geo_base.specs.Cache.{cut_of, with_place, with_places}
 use Rattle.geo_base.specs.Cuts.{CoversCluster, IsCut}
-use Rattle.geo_base.specs.Entry.{is_data, is_place, meant_for, same_ident}
+use Rattle.geo_base.specs.Entry.{is_data, means_cluster, meant_for, same_ident}
 use Rattle.geo_base.specs.Laws.{MarkerAt}
 use Rattle.geo_base.specs.Run.{run}
 use Rattle.geo_base.specs.Safe.{IsEntry}
@@ -39,25 +39,25 @@ use Rattle.observed_laws.proofs.Seeing.{IsRead, PlaceSeen, StandsThere, index_in
 
 -- ---- the places of a cut
 
-place_size : (own : ℕ) (c : Place) (p : Position) (ps : List (Option Position)) → length (with_place own c p ps) ≡ length ps
-place_size own (place.Known x) p ps = by (x == own)
+place_size : (own : ℕ) (c : ClusterRef) (p : Position) (ps : List (Option Position)) → length (with_place own c p ps) ≡ length ps
+place_size own (cluster_ref.Known x) p ps = by (x == own)
   where
     by : (b : Bool) → length (cond b ps (slice_set ps x (Some p))) ≡ length ps
     by true = refl
     by false = length-set ps x (Some p)
-place_size own (place.Stranger n) p ps = refl
+place_size own (cluster_ref.Stranger n) p ps = refl
 
 places_size : (own : ℕ) (ps : List (Option Position)) (rs : List ClusterPosition) → length (with_places own ps rs) ≡ length ps
 places_size own ps [] = refl
 places_size own ps (r ∷ rs) = places_size own (with_place own r.cluster r.position ps) rs ∙ place_size own r.cluster r.position ps
 
-place_own : (own : ℕ) (c : Place) (p : Position) (ps : List (Option Position)) → slice_index_or (with_place own c p ps) own None ≡ slice_index_or ps own None
-place_own own (place.Known x) p ps = by (x == own) refl
+place_own : (own : ℕ) (c : ClusterRef) (p : Position) (ps : List (Option Position)) → slice_index_or (with_place own c p ps) own None ≡ slice_index_or ps own None
+place_own own (cluster_ref.Known x) p ps = by (x == own) refl
   where
     by : (b : Bool) → (x == own) ≡ b → slice_index_or (cond b ps (slice_set ps x (Some p))) own None ≡ slice_index_or ps own None
     by true is = refl
     by false is = get_or-set_other ps x own (Some p) None (λ e. false≢true (sym is ∙ eq-eqb x own (sym e)))
-place_own own (place.Stranger n) p ps = refl
+place_own own (cluster_ref.Stranger n) p ps = refl
 
 places_own : (own : ℕ) (ps : List (Option Position)) (rs : List ClusterPosition) → slice_index_or (with_places own ps rs) own None ≡ slice_index_or ps own None
 places_own own ps [] = refl
@@ -133,13 +133,13 @@ cut_seen s es r logs t x i e id local remote read there at own is = go (stands_t
 -- ---- told
 
 -- where no position of a cluster is named, no pair names it
-not_named : (y : ℕ) (rs : List ClusterPosition) (k : ℕ) (q : ClusterPosition) → positions_for y rs ≡ [] → slice_get rs k ≡ Some q → is_place y q.cluster ≡ true → ⊥
+not_named : (y : ℕ) (rs : List ClusterPosition) (k : ℕ) (q : ClusterPosition) → positions_for y rs ≡ [] → slice_get rs k ≡ Some q → means_cluster y q.cluster ≡ true → ⊥
 not_named y [] k q none at named_y = none-some q at
 not_named y (r ∷ rs) zero q none at named_y =
-    let is : is_place y r.cluster ≡ true = subst (λ (d : ClusterPosition). is_place y d.cluster ≡ true) (sym (same_Some _ _ at)) named_y in
+    let is : means_cluster y r.cluster ≡ true = subst (λ (d : ClusterPosition). means_cluster y d.cluster ≡ true) (sym (same_Some _ _ at)) named_y in
     let some : r.position ∷ positions_for y rs ≡ [] = subst (λ (b : Bool). cond b (r.position ∷ positions_for y rs) (positions_for y rs) ≡ []) is none in
     let e : length (r.position ∷ positions_for y rs) ≡ 0 = ap length some in omega (arith, e)
-not_named y (r ∷ rs) (suc k) q none at named_y = by (is_place y r.cluster) none (λ rest. not_named y rs k q rest at named_y)
+not_named y (r ∷ rs) (suc k) q none at named_y = by (means_cluster y r.cluster) none (λ rest. not_named y rs k q rest at named_y)
   where
     by : (b : Bool) → cond b (r.position ∷ positions_for y rs) (positions_for y rs) ≡ [] → (positions_for y rs ≡ [] → ⊥) → ⊥
     by true some rest = let e : length (r.position ∷ positions_for y rs) ≡ 0 = ap length some in omega (arith, e)
@@ -147,16 +147,16 @@ not_named y (r ∷ rs) (suc k) q none at named_y = by (is_place y r.cluster) non
 
 -- the one position of a cluster is that of each pair that names it
 only_one : (y : ℕ) (p : Position) (rs : List ClusterPosition) (k : ℕ) (q : ClusterPosition) → positions_for y rs ≡ p ∷ [] → slice_get rs k ≡ Some q
-    → is_place y q.cluster ≡ true → q.position ≡ p
+    → means_cluster y q.cluster ≡ true → q.position ≡ p
 only_one y p [] k q one at named_y = absurd (none-some q at)
-only_one y p (r ∷ rs) k q one at named_y = by (is_place y r.cluster) refl k at one (λ m mat rest. only_one y p rs m q rest mat named_y)
+only_one y p (r ∷ rs) k q one at named_y = by (means_cluster y r.cluster) refl k at one (λ m mat rest. only_one y p rs m q rest mat named_y)
   where
-    by : (b : Bool) → is_place y r.cluster ≡ b → (k : ℕ) → slice_get (r ∷ rs) k ≡ Some q → cond b (r.position ∷ positions_for y rs) (positions_for y rs) ≡ p ∷ []
+    by : (b : Bool) → means_cluster y r.cluster ≡ b → (k : ℕ) → slice_get (r ∷ rs) k ≡ Some q → cond b (r.position ∷ positions_for y rs) (positions_for y rs) ≡ p ∷ []
         → ((m : ℕ) → slice_get rs m ≡ Some q → positions_for y rs ≡ p ∷ [] → q.position ≡ p) → q.position ≡ p
     by true is zero at one rest = ap (λ (d : ClusterPosition). d.position) (sym (same_Some _ _ at)) ∙ head_is p r.position p (positions_for y rs) [] one
     by true is (suc m) at one rest = absurd (not_named y rs m q (tail_is r.position p (positions_for y rs) [] one) at named_y)
     by false is zero at one rest =
-        absurd (false≢true (sym is ∙ subst (λ (d : ClusterPosition). is_place y d.cluster ≡ true) (sym (same_Some _ _ at)) named_y))
+        absurd (false≢true (sym is ∙ subst (λ (d : ClusterPosition). means_cluster y d.cluster ≡ true) (sym (same_Some _ _ at)) named_y))
     by false is (suc m) at one rest = rest m at one
 
 pub told_seen : (s : Setup) (es : List Step) (r : Reading) (logs : List Said) (t x i : ℕ) (e : Entry) (n : List ℕ) (remote : List ClusterPosition) → IsRead s es r logs → IsThere s t x

@@ -6,10 +6,10 @@ use Rattle.geo_base.specs.declared.event.Step.{Step}
 use Rattle.geo_base.specs.declared.frame.Frame.TheVariants as frame
 use Rattle.geo_base.specs.declared.packet.Packet.{Packet}
 use Rattle.geo_base.specs.declared.position.Position.{Position}
-use Rattle.geo_base.specs.Broker.{Broker, sender_at}
+use Rattle.geo_base.specs.Broker.{Broker, replicator_at}
 use Rattle.geo_base.specs.Entry.{same_ident}
 use Rattle.geo_base.specs.Laws.{IsShort}
-use Rattle.geo_base.specs.Position.{nowhere, same_position}
+use Rattle.geo_base.specs.Position.{no_position, same_position}
 use Rattle.geo_base.specs.Run.{run}
 use Rattle.geo_base.specs.Scripted.{IsScripted}
 use Rattle.geo_base.specs.Settled.{settled}
@@ -47,7 +47,7 @@ abbrev pub seen_of : Setup → Broker → Broker → Seen
 seen_of s late early = record {
   is_read = true;
   topic = record { entries = late.entries; positions = positions_in late.ledgers 0 (length late.entries); subs = map sub_seen early.subs };
-  received = map (λ y. (sender_at early y).cursor) (range_with_len 0 (length s.clusters));
+  received = map (λ y. (replicator_at early y).cursor) (range_with_len 0 (length s.clusters));
 }
 
 abbrev pub node_read : Setup → List Step → Reading → ℕ → Seen
@@ -78,7 +78,7 @@ pub record WasReceipted (s : Setup) (es : List Step) (t : ℕ) (g : Ident) (p : 
   pub is : packet.frame ≡ frame.SendReceipt id seq (Some p)
   pub topic : (declared_at s client).topic ≡ t
   pub of : ident_of (declared_at s client) seq ≡ g
-  pub stored : same_position p nowhere ≡ false
+  pub stored : same_position p no_position ≡ false
 
 -- and of receipts only such
 abbrev pub OnlyReceipts : Setup → List Step → List Said → Type 0

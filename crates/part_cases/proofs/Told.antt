@@ -5,7 +5,7 @@ use Rattle.geo_base.specs.declared.entry.Content.TheVariants as content
 use Rattle.geo_base.specs.declared.entry.Entry.{Entry}
 use Rattle.geo_base.specs.declared.entry.Targets.TheVariants as targets
 use Rattle.geo_base.specs.declared.marker.Marker.TheVariants as marker
-use Rattle.topic_upkeep.specs.Readable.{AreTellable, IsTellable}
+use Rattle.tiered_storage.specs.Readable.{AreTellable, IsTellable}
 use Rattle.message_meta.specs.Known.{IsRest}
 use Rattle.frame_values.specs.Values.{no_marker}
 use Rattle.topic_store.specs.Store.{Store}

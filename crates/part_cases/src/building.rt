@@ -3,7 +3,7 @@ ghost use Rattle.std.specs.Prelude.{◌<◌, ◌≤◌};
 
 use crate::telling::{add_number, add_word};
 use geo_base::{Cut, Memory, Position, Progress};
-use snapshots::*;
+use replicated_subs::*;
 use std::alloc::Global;
 
 /// A response: its id, the cluster that answers, the entry of the position that it names, the entry of its own position here,
@@ -107,7 +107,7 @@ fn add_cut(text: &mut String, cut: &Cut) -> Result<(), Memory> {
 }
 
 /// Adds a builder's two ids and its cut.
-fn add_said(text: &mut String, builder: &Builder) -> Result<(), Memory> {
+fn add_said(text: &mut String, builder: &SnapshotBuilder) -> Result<(), Memory> {
     add_word(text, builder.id())?;
     add_word(text, " ")?;
     add_word(text, builder.current_id())?;
@@ -118,7 +118,11 @@ fn add_said(text: &mut String, builder: &Builder) -> Result<(), Memory> {
 }
 
 /// Hands a response to a copy of a builder, which takes its place; whether it did what the response is to do.
-fn respond(alloc: Global, builder: &mut Builder, response: &Response) -> Result<bool, Memory> {
+fn respond(
+    alloc: Global,
+    builder: &mut SnapshotBuilder,
+    response: &Response,
+) -> Result<bool, Memory> {
     let Response(id, cluster, remote, local, progress) = response;
     let mut tried = builder.copy(alloc)?;
     let did = tried.on_response(id, *cluster, at(*remote), at(*local));
@@ -126,11 +130,11 @@ fn respond(alloc: Global, builder: &mut Builder, response: &Response) -> Result<
     Ok(did == *progress)
 }
 
-/// Adds what a builder says behind responses, or the number of the one that did something else.
+/// Adds what a builder says after responses, or the number of the one that did something else.
 fn add_told(
     alloc: Global,
     text: &mut String,
-    builder: &mut Builder,
+    builder: &mut SnapshotBuilder,
     responses: &[Response],
 ) -> Result<(), Memory> {
     for (number, response) in responses.iter().enumerate() {
@@ -141,12 +145,12 @@ fn add_told(
     add_said(text, builder)
 }
 
-/// Whether a new builder says behind the responses of a row what it is to say.
+/// Whether a new builder says after the responses of a row what it is to say.
 fn is_said(alloc: Global, row: &Row) -> Result<bool, Memory>
     requires own { row.now.own < row.now.clusters }
     requires clusters { 2 ≤ row.now.clusters }
 {
-    let mut builder = Builder::start(alloc, row.id, row.own, row.clusters)?;
+    let mut builder = SnapshotBuilder::start(alloc, row.id, row.own, row.clusters)?;
     let mut text = String::new(alloc);
     let added = add_told(alloc, &mut text, &mut builder, row.responses);
     drop(builder);

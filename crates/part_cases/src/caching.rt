@@ -1,7 +1,7 @@
 //! The cache of snapshots.
 use crate::telling::{add_number, add_word};
 use geo_base::{Cut, Memory, Position, Sequence};
-use snapshots::*;
+use replicated_subs::*;
 use std::alloc::Global;
 
 /// A call: snapshots of these local indexes are added, the mark-delete position comes to an index, or all is forgotten.

@@ -1,5 +1,5 @@
 //! Compacted views.
-ghost use Rattle.topic_upkeep.specs.Last.{IsCompacted};
+ghost use Rattle.topic_compaction.specs.Last.{IsCompacted};
 
 use crate::stored_entries::{message, update};
 use geo_base::{Content, Entry, EntryStore, Memory};
@@ -7,10 +7,10 @@ use rand_core::utils::NextWord;
 use rand_pcg::Pcg32;
 use std::alloc::Global;
 use std::test::Fail;
+use topic_compaction::*;
 use topic_store::TopicLedger;
-use topic_upkeep::*;
 
-/// Whether an entry stays in a view by its definition: this searches the topic behind it.
+/// Whether an entry stays in a view by its definition: this searches the topic after it.
 fn stays(topic: &TopicLedger, horizon: usize, index: usize) -> bool {
     let Some(entry) = topic.get(index) else {
         return false;
@@ -26,7 +26,7 @@ fn stays(topic: &TopicLedger, horizon: usize, index: usize) -> bool {
             && !comes_again(topic, key.as_str(), index, horizon))
 }
 
-/// Whether a message behind an index and before a horizon has a key.
+/// Whether a message after an index and before a horizon has a key.
 fn comes_again(topic: &TopicLedger, key: &str, index: usize, horizon: usize) -> bool {
     for later in index..horizon {
         if later > index && has_key(topic, later, key) {

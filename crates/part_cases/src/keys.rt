@@ -2,9 +2,8 @@
 use crate::entries::ident;
 use crate::telling::{add_number, add_word};
 use cursor_acks::Cursor;
-use dispatcher::{Dispatcher, Offer};
+use dispatcher::{Dispatcher, Offer, *};
 use geo_base::{Blob, Content, Entry, EntryStore, Memory, Metadata, SubKind, Targets, Text};
-use key_shared::*;
 use std::alloc::Global;
 use topic_store::ListStore;
 

@@ -129,7 +129,7 @@ fn taken_apart(alloc: Global, per_ledger: u64, ledger: TopicLedger) -> Result<To
     TopicLedger::from_parts(alloc, per_ledger, lengths.as_slice(), entries)
 }
 
-/// Whether a plain store says behind steps what it is to say.
+/// Whether a plain store says after steps what it is to say.
 fn is_said_by_plain(alloc: Global, row: &Row) -> Result<bool, Memory>
     requires { 0 < row.now.per_ledger }
 {
@@ -161,7 +161,7 @@ fn is_made_again(alloc: Global, per_ledger: u64, ledger: &TopicLedger) -> Result
     Ok(is_same)
 }
 
-/// Whether a ledger says behind steps what it is to say, and the store of what a copy of it is made of is like it.
+/// Whether a ledger says after steps what it is to say, and the store of what a copy of it is made of is like it.
 fn is_said_by_ledger(alloc: Global, row: &Row) -> Result<bool, Memory>
     requires { 0 < row.now.per_ledger }
 {

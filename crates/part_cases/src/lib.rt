@@ -24,7 +24,7 @@ mod ledgers;
 #[cfg(test)]
 mod offers;
 #[cfg(test)]
-mod plain_sender;
+mod plain_replicator;
 #[cfg(test)]
 mod replicating;
 #[cfg(test)]

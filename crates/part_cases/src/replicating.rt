@@ -1,9 +1,9 @@
-//! Senders and receivers, against tables.
+//! Replicators and receivers, against tables.
 use crate::entries::{entry, ident};
 use crate::telling::{add_number, add_pair, add_word};
 use cursor_acks::Cursor;
 use geo_base::{
-    BoxedMarker, Content, EntryStore, Marker, Memory, Place, SenderState, Targets, Text,
+    BoxedMarker, ClusterRef, Content, EntryStore, Marker, Memory, ReplicatorState, Targets, Text,
 };
 use replicator::*;
 use std::alloc::Global;
@@ -65,7 +65,7 @@ pub const TOPIC: &[Stored] = &[
     },
 ];
 
-/// A call of a sender.
+/// A call of a replicator.
 #[derive(Clone, Copy)]
 pub enum Call {
     Reset,
@@ -77,7 +77,7 @@ pub enum Call {
     Restart,
 }
 
-/// Calls on a new sender, and what it answers.
+/// Calls on a new replicator, and what it answers.
 struct Row {
     calls: &'static [Call],
     said: &'static str,
@@ -99,7 +99,7 @@ const TABLE: &[Row] = &[
         said: "idle closed session-1 idle opening open open 0-as-0",
     },
     // a message of this cluster is sent where it is meant to go; a marker of the other one is handed over; a replicated entry is
-    // not replicated again. Reading goes on behind what awaits a receipt
+    // not replicated again. Reading goes on after what awaits a receipt
     Row {
         calls: &[
             Call::Reset,
@@ -186,7 +186,7 @@ fn content(alloc: Global, marker: bool) -> Result<Content, Memory> {
     }
     let marker = Marker::Request {
         id: Text::from_str(alloc, "a:0")?,
-        source: Place::Known(REMOTE),
+        source: ClusterRef::Known(REMOTE),
     };
     Ok(Content::Marked(BoxedMarker::new(alloc, marker)?))
 }
@@ -213,7 +213,7 @@ pub fn topic(alloc: Global) -> Result<ListStore, Memory> {
 #[derive(Clone, Copy, PartialEq, Eq)]
 pub enum Answer {
     Began(u64),
-    State(SenderState),
+    State(ReplicatorState),
     Receipt(Option<u64>),
     Read(ReadOut),
     Restarted,
@@ -230,11 +230,11 @@ fn say_read(text: &mut String, read: ReadOut) -> Result<(), Memory> {
 }
 
 /// The word of a state.
-fn state_word(state: SenderState) -> &'static str {
+fn state_word(state: ReplicatorState) -> &'static str {
     match state {
-        SenderState::Closed => "closed",
-        SenderState::Opening => "opening",
-        SenderState::Open => "open",
+        ReplicatorState::Closed => "closed",
+        ReplicatorState::Opening => "opening",
+        ReplicatorState::Open => "open",
     }
 }
 
@@ -259,47 +259,51 @@ fn acknowledge(cursor: &mut Cursor, index: Option<u64>) -> Result<(), Memory> {
     Ok(())
 }
 
-/// What a sender reads, which is acknowledged where it is not sent.
-fn read(sender: &mut Sender, cursor: &mut Cursor, store: &ListStore) -> Result<ReadOut, Memory> {
-    sender.reserve(1)?;
-    let read = sender.read(store, cursor);
+/// What a replicator reads, which is acknowledged where it is not sent.
+fn read(
+    replicator: &mut Replicator,
+    cursor: &mut Cursor,
+    store: &ListStore,
+) -> Result<ReadOut, Memory> {
+    replicator.reserve(1)?;
+    let read = replicator.read(store, cursor);
     if let ReadOut::Skip(index) | ReadOut::Mark(index) = read {
         acknowledge(cursor, Some(index))?;
     }
     Ok(read)
 }
 
-/// Does a call, and acknowledges what its answer names, as the sender's owner does.
+/// Does a call, and acknowledges what its answer names, as the replicator's owner does.
 pub fn answer_to(
-    sender: &mut Sender,
+    replicator: &mut Replicator,
     cursor: &mut Cursor,
     store: &ListStore,
     call: Call,
 ) -> Result<Answer, Memory> {
     match call {
-        Call::Reset if sender.session() == u64::MAX => Ok(Answer::Began(u64::MAX)),
-        Call::Reset => Ok(Answer::Began(sender.reset())),
+        Call::Reset if replicator.session() == u64::MAX => Ok(Answer::Began(u64::MAX)),
+        Call::Reset => Ok(Answer::Began(replicator.reset())),
         Call::Success(session) => {
-            sender.on_success(session);
-            Ok(Answer::State(sender.state()))
+            replicator.on_success(session);
+            Ok(Answer::State(replicator.state()))
         }
         Call::Receipt(session, number) => {
-            let index = sender.on_receipt(session, number);
+            let index = replicator.on_receipt(session, number);
             acknowledge(cursor, index)?;
             Ok(Answer::Receipt(index))
         }
-        Call::Read => Ok(Answer::Read(read(sender, cursor, store)?)),
+        Call::Read => Ok(Answer::Read(read(replicator, cursor, store)?)),
         Call::Restart => {
-            sender.restart();
+            replicator.restart();
             Ok(Answer::Restarted)
         }
     }
 }
 
-/// Adds what a sender answers to calls, with a space between two words.
+/// Adds what a replicator answers to calls, with a space between two words.
 fn add_answers(
     text: &mut String,
-    sender: &mut Sender,
+    replicator: &mut Replicator,
     cursor: &mut Cursor,
     store: &ListStore,
     calls: &[Call],
@@ -308,18 +312,18 @@ fn add_answers(
         if !text.is_empty() {
             add_word(text, " ")?;
         }
-        say(text, answer_to(sender, cursor, store, *call)?)?;
+        say(text, answer_to(replicator, cursor, store, *call)?)?;
     }
     Ok(())
 }
 
-/// Whether a new sender over a topic answers to calls what it is to answer.
+/// Whether a new replicator over a topic answers to calls what it is to answer.
 fn is_said(alloc: Global, store: &ListStore, row: &Row) -> Result<bool, Memory> {
-    let mut sender = Sender::new(alloc, OWN, REMOTE);
+    let mut replicator = Replicator::new(alloc, OWN, REMOTE);
     let mut cursor = Cursor::none(alloc);
     let mut text = String::new(alloc);
-    let added = add_answers(&mut text, &mut sender, &mut cursor, store, row.calls);
-    drop(sender);
+    let added = add_answers(&mut text, &mut replicator, &mut cursor, store, row.calls);
+    drop(replicator);
     drop(cursor);
     let is_said = text.as_str() == row.said;
     drop(text);
@@ -338,7 +342,7 @@ fn first_other(alloc: Global, store: &ListStore) -> Result<Option<usize>, Memory
 }
 
 #[test]
-fn a_sender_answers_as_in_the_table(rt: HostRuntime) -> Result<(), Memory> {
+fn a_replicator_answers_as_in_the_table(rt: HostRuntime) -> Result<(), Memory> {
     let store = topic(rt.alloc())?;
     let other = first_other(rt.alloc(), &store);
     drop(store);

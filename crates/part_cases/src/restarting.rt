@@ -16,7 +16,7 @@ enum Told {
     Delete(&'static str),
     Acks(&'static str, &'static [u64]),
     Seek(&'static str, &'static [u64], u64),
-    SenderAcks(u32, &'static [u64]),
+    ReplicatorAcks(u32, &'static [u64]),
     Session(u32, u64),
     Ledger,
 }
@@ -98,10 +98,10 @@ const TABLE: &[Row] = &[
     Row {
         writes: &[
             Told::Session(0, 3),
-            Told::SenderAcks(2, &[0, 1]),
+            Told::ReplicatorAcks(2, &[0, 1]),
             Told::Session(2, 1),
             Told::Session(3, 9),
-            Told::SenderAcks(3, &[0]),
+            Told::ReplicatorAcks(3, &[0]),
         ],
         said: "next 0:0; senders 3 0 1 0-1; p new, marker 0",
     },
@@ -179,10 +179,10 @@ fn write_sub(alloc: Global, durable: &mut Durable, told: &Told) -> Result<(), Me
 }
 
 /// Does a write of a replicator, or opens a ledger; any other is none.
-fn write_sender(alloc: Global, durable: &mut Durable, told: &Told) -> Result<(), Memory> {
+fn write_replicator(alloc: Global, durable: &mut Durable, told: &Told) -> Result<(), Memory> {
     match told {
-        Told::SenderAcks(remote, indexes) => {
-            let write = Write::SenderAcks {
+        Told::ReplicatorAcks(remote, indexes) => {
+            let write = Write::ReplicatorAcks {
                 remote: *remote,
                 cursor: cursor(alloc, indexes)?,
             };
@@ -209,8 +209,8 @@ fn write(alloc: Global, durable: &mut Durable, told: &Told) -> Result<(), Memory
         Told::Seek(name, indexes, seeks) => {
             write_cursor(alloc, durable, name, indexes, Some(*seeks))
         }
-        Told::SenderAcks(..) | Told::Session(..) | Told::Ledger => {
-            write_sender(alloc, durable, told)
+        Told::ReplicatorAcks(..) | Told::Session(..) | Told::Ledger => {
+            write_replicator(alloc, durable, told)
         }
     }
 }
@@ -227,9 +227,9 @@ fn add_sub(text: &mut String, sub: &DurableSub) -> Result<(), Memory> {
 }
 
 /// Adds a replicator.
-fn add_sender(text: &mut String, sender: &DurableSender) -> Result<(), Memory> {
-    add_number(text, " ", sender.session, "")?;
-    add_ranges(text, &sender.cursor, " ", "")
+fn add_replicator(text: &mut String, replicator: &DurableReplicator) -> Result<(), Memory> {
+    add_number(text, " ", replicator.session, "")?;
+    add_ranges(text, &replicator.cursor, " ", "")
 }
 
 /// Adds the next position, the subscriptions and the replicators.
@@ -241,8 +241,8 @@ fn add_durable(text: &mut String, durable: &Durable) -> Result<(), Memory> {
         add_sub(text, sub)?;
     }
     add_word(text, "; senders")?;
-    for sender in durable.senders.as_slice() {
-        add_sender(text, sender)?;
+    for replicator in durable.replicators.as_slice() {
+        add_replicator(text, replicator)?;
     }
     Ok(())
 }

@@ -1,6 +1,6 @@
 //! Messages of a producer `p`, and markers, as the cluster of number 0 stores them.
 ghost use Rattle.std.specs.Prelude.{ℕ, List, IfOk};
-ghost use Rattle.topic_upkeep.specs.Readable.{IsTellable};
+ghost use Rattle.tiered_storage.specs.Readable.{IsTellable};
 
 use geo_base::{
     Blob, BoxedMarker, Content, Entry, Ident, Marker, Memory, Metadata, ProducerName, Sequence,

@@ -43,7 +43,10 @@ fn choices(sub: &mut Sub, store: &ListStore) -> [Choice; 5]
 {
     sub.change(SubChange::Attach(CONSUMER));
     let first = sub.choice(store);
-    sub.change(SubChange::Given { index: 0, place: 0 });
+    sub.change(SubChange::Given {
+        index: 0,
+        consumer_index: 0,
+    });
     let given = sub.choice(store);
     sub.write(SubWrite::AckTo(1), store);
     sub.change(SubChange::Acked);

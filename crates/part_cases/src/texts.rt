@@ -1,12 +1,12 @@
 //! The text of a ledger.
 ghost use Rattle.std.specs.Prelude.{◌≡◌, ◌+◌, ℕ, List, length, IfOk, OnOk};
-ghost use Rattle.topic_upkeep.specs.Readable.{AreTellable, IsTellable};
+ghost use Rattle.tiered_storage.specs.Readable.{AreTellable, IsTellable};
 
 use crate::stored_entries::{message, update};
 use geo_base::{Blob, ClusterName, Entry, Memory};
 use std::alloc::Global;
 use std::test::Fail;
-use topic_upkeep::{put_ledger, read_ledger};
+use tiered_storage::{put_ledger, read_ledger};
 
 /// One message of producer `p` with payload `hi` that cluster 0 stored first, by hand: a count; an origin, a producer, a sequence id,
 /// no marker, all clusters; metadata (producer_name, sequence_id and publish_time) and the payload.

@@ -1,16 +1,16 @@
 //! Ledgers that move to a tier.
 ghost use Rattle.std.specs.Prelude.{◌≡◌, ◌≤◌, ℕ, List, length, IfOk};
 ghost use Rattle.geo_base.specs.declared.entry.Entry.{Entry};
-ghost use Rattle.topic_upkeep.specs.Readable.{AreTellable};
-ghost use Rattle.topic_upkeep.specs.Tiered.{Holds};
+ghost use Rattle.tiered_storage.specs.Readable.{AreTellable};
+ghost use Rattle.tiered_storage.specs.Tiered.{Holds};
 
 use crate::texts::{clusters, is_same, ledger};
 use geo_base::limits::CLUSTERS;
 use geo_base::{ClusterName, Entry, EntryStore, Memory};
 use std::alloc::Global;
 use std::test::Fail;
+use tiered_storage::*;
 use topic_store::TopicLedger;
-use topic_upkeep::*;
 
 /// A topic of five entries in ledgers of two, of which the third is open.
 fn topic(alloc: Global) -> Result<TopicLedger, Memory>

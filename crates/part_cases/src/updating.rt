@@ -3,11 +3,11 @@ use crate::entries::{entry, ident, sub_name};
 use crate::telling::{add_number, add_ranges};
 use cursor_acks::{Cursor, PastEnd};
 use geo_base::{
-    ClusterPosition, Content, Cut, Entry, EntryStore, Marker, Memory, Place, Position, Sequence,
-    SubName, Targets,
+    ClusterPosition, ClusterRef, Content, Cut, Entry, EntryStore, Marker, Memory, Position,
+    Sequence, SubName, Targets,
 };
+use replicated_subs::*;
 use std::alloc::Global;
-use sub_update::*;
 use topic_store::ListStore;
 
 /// What stands in a topic: a message of a cluster for all or for some clusters, or a marker that has no reading.
@@ -188,7 +188,7 @@ fn is_past_the_end(alloc: Global) -> Result<bool, Memory> {
 }
 
 #[test]
-fn updates_pass_over_what_could_be_had(rt: HostRuntime) -> Result<(), Memory> {
+fn updates_acknowledge_what_could_be_had(rt: HostRuntime) -> Result<(), Memory> {
     assert_eq!(rt; first_other(rt.alloc())?, None);
     assert!(rt; is_past_the_end(rt.alloc())?);
     Ok(())
@@ -238,8 +238,8 @@ fn update(alloc: Global, sub: &SubName) -> Result<Marker, Memory> {
 /// Whether a marker's cluster and position are those of a row.
 fn is_named(one: &ClusterPosition, row: &(u32, u64, u64)) -> bool {
     match one.cluster {
-        Place::Known(cluster) => (cluster, one.position.ledger, one.position.entry) == *row,
-        Place::Stranger(_) => false,
+        ClusterRef::Known(cluster) => (cluster, one.position.ledger, one.position.entry) == *row,
+        ClusterRef::Stranger(_) => false,
     }
 }
 

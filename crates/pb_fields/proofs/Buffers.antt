@@ -16,7 +16,7 @@ put_then a b c first rest one two = record {
   spare = omega (arith, one.spare, two.spare, length-append first rest);
 }
 
--- room for all is room for what is left of it behind the first piece
+-- room for all is room for what is left of it after the first piece
 pub room_then : (a b : Filled) (first rest : List ℕ) → Puts a first b → length (first ++ rest) ≤ a.spare → length rest ≤ b.spare
 room_then a b first rest one room = omega (arith, room, one.spare, length-append first rest)
 
@@ -77,7 +77,7 @@ tag_room a b t k rest small one room = omega (arith, room, one.spare, length-app
 pub tag_fits : (k s : ℕ) (rest : List ℕ) → k < 128 → length (varint k ++ rest) ≤ s → 0 < s
 tag_fits k s rest small room = omega (arith, room, length-append (varint k) rest, ap (λ (bytes : List ℕ). length bytes) (varint-small k small))
 
--- ---- a content behind its head
+-- ---- a content after its head
 
 pub content_put : (a b c : Filled) (n : ℕ) (content : List ℕ) → Puts a (head_text n (length content)) b → Puts b content c → Puts a (field_text (bytes_field n content)) c
 content_put a b c n content one two = put_same a c (head_text n (length content) ++ content) (field_text (bytes_field n content)) (head_content n content) (put_then a b c (head_text n (length content)) content one two)

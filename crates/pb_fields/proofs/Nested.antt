@@ -23,6 +23,7 @@ use Rattle.pb_fields.specs.Embedded.{Holds, FitsWith, IsMessageWith, IsMessageTe
 use Rattle.pb_fields.proofs.Unique.{text_one, fault_one, fault_sound}
 use Rattle.pb_fields.proofs.LastValues.{values-same, values-other}
 use Rattle.pb_fields.proofs.Messages.{first_one, none_wrong, fits_or_wrong, wrong_one}
+use Rattle.geo_base.proofs.Results.{some_number}
 
 pub IsWrongOrMemory-weaker : (P Q : MessageFault → Type 0) (e : MessageFault) → ((e : MessageFault) → P e → Q e) → IsWrongOrMemory P e → IsWrongOrMemory Q e
 IsWrongOrMemory-weaker P Q (fault.Pb x) f h = f (fault.Pb x) h
@@ -41,9 +42,6 @@ IsWrongOrMemory-of P fault.Memory h = tt
 pub err_weaker : {X : Type 0} (P Q : MessageFault → Type 0) (r : Result X MessageFault) → ((e : MessageFault) → P e → Q e) → IfErr r (IsWrongOrMemory P) → IfErr r (IsWrongOrMemory Q)
 err_weaker P Q (Ok x) f h = tt
 err_weaker P Q (Err e) f h = IsWrongOrMemory-weaker P Q e f h
-
-same_number : (x y : ℕ) → ◌≡◌ {A = Option ℕ} (Some x) (Some y) → x ≡ y
-same_number x y e = cc
 
 -- a field that holds a message has its row's form
 holds_fits : (rows : List Row) (f : Field) (content : List ℕ) → Holds rows f content → Fits rows f
@@ -77,7 +75,7 @@ module _ (Right : ℕ → List ℕ → Type 0) (Wrong : ℕ → List ℕ → Mes
   fields_one rows fs a b (field h) (field k) = first_one (FitsWith Right rows) (IsWrongWith Wrong rows) (field_sound rows) (field_one rows) fs a b h k
   fields_one rows fs a b (field h) (missing n fit is b-is) = absurd (none_wrong (FitsWith Right rows) (IsWrongWith Wrong rows) (field_sound rows) fs _ fit h)
   fields_one rows fs a b (missing n fit is a-is) (field k) = absurd (none_wrong (FitsWith Right rows) (IsWrongWith Wrong rows) (field_sound rows) fs _ fit k)
-  fields_one rows fs a b (missing m fit is a-is) (missing n fit' is' b-is) = a-is ∙ ap (λ (x : ℕ). fault.Missing x) (same_number m n (sym is ∙ is')) ∙ sym b-is
+  fields_one rows fs a b (missing m fit is a-is) (missing n fit' is' b-is) = a-is ∙ ap (λ (x : ℕ). fault.Missing x) (some_number m n (sym is ∙ is')) ∙ sym b-is
 
   pub fields_sound : (rows : List Row) (fs : List Field) (e : MessageFault) → IsMessageWith Right rows fs → WrongFieldsWith Right Wrong rows fs e → ⊥
   fields_sound rows fs e right (field h) = none_wrong (FitsWith Right rows) (IsWrongWith Wrong rows) (field_sound rows) fs _ right.fit h

@@ -7,7 +7,7 @@ pub from_lower : (low n : ℕ) (fs : List Field) → low ≤ n → AscendFrom n 
 from_lower low n [] le h = tt
 from_lower low n (f ∷ fs) le h = (omega (arith, le, h.0), h.1)
 
--- behind fields of one number
+-- after fields of one number
 pub behind_map : {X : Type 0} (low n : ℕ) (make : X → Field) (xs : List X) (fs : List Field) → ((x : X) → (make x).number ≡ n) → low ≤ n → AscendFrom n fs → AscendFrom low (map make xs ++ fs)
 behind_map low n make [] fs is le h = from_lower low n fs le h
 behind_map low n make (x ∷ xs) fs is le h =

@@ -1,4 +1,4 @@
--- Two fields at the front of bytes, and nothing behind.
+-- Two fields at the front of bytes, and nothing after.
 use Rattle.std.proofs.Common.{◌≡◌, ◌≢◌, ℕ, ◌+◌, ◌*◌, ◌%◌, ◌<◌, ◌^◌, List, [], ◌∷◌, ◌++◌, length, sym, ap, subst, ◌∙◌}
 use Rattle.std.proofs.lemmas.List.{nil_from_length}
 use Rattle.pb_fields.specs.declared.field.Field.{Field}
@@ -39,13 +39,13 @@ no_value bytes rest n w why s above below h f x t =
 pub no_pair_front : (bytes : List ℕ) (f g : Field) → ((x : List ℕ) → TakesField bytes f x → ⊥) → IsText bytes (f ∷ g ∷ []) → ⊥
 no_pair_front bytes f g none (next {rest = x} s k) = none x s
 
--- two fields are no text of bytes whose first field has others behind it
+-- two fields are no text of bytes whose first field has others after it
 pub no_pair_behind : (bytes after : List ℕ) (h f g : Field) → TakesField bytes h after → ((x : List ℕ) → TakesField after g x → ⊥) → IsText bytes (f ∷ g ∷ []) → ⊥
 no_pair_behind bytes after h f g t none (next {rest = x} s (next {rest = y} k e)) =
     let one = field_one bytes x after f h s t in
     none y (subst (λ (z : List ℕ). TakesField z g y) one.1 k)
 
--- nor where bytes are left behind the second
+-- nor where bytes are left after the second
 pub no_pair_left : (bytes after rest : List ℕ) (h i f g : Field) → TakesField bytes h after → TakesField after i rest → (length rest ≡ 0 → ⊥) → IsText bytes (f ∷ g ∷ []) → ⊥
 no_pair_left bytes after rest h i f g t u some (next {rest = x} s (next {rest = y} k end)) =
     let one = field_one bytes x after f h s t in

@@ -11,10 +11,7 @@ use Rattle.pb_fields.specs.declared.message.Row.{Row}
 use Rattle.pb_fields.specs.Canonical.{optional}
 use Rattle.pb_fields.specs.Message.{row_of, HasForm, Fits, IsUnknown, values, unknown}
 use Rattle.pb_fields.proofs.LastValues.{values-same, values-other}
-
-pub AllByRecursion-append : {X : Type 0} (P : X → Type 0) (xs ys : List X) → AllByRecursion P xs → AllByRecursion P ys → AllByRecursion P (xs ++ ys)
-AllByRecursion-append P [] ys h k = k
-AllByRecursion-append P (x ∷ xs) ys h k = (h.0, AllByRecursion-append P xs ys h.1 k)
+pub use Rattle.geo_base.proofs.Lists.{all_append as AllByRecursion-append}
 
 pub AllByRecursion-map : {X Y : Type 0} (P : X → Type 0) (Q : Y → Type 0) (f : X → Y) (xs : List X) → ((x : X) → P x → Q (f x)) → AllByRecursion P xs → AllByRecursion Q (map f xs)
 AllByRecursion-map P Q f [] each h = tt

@@ -1,10 +1,10 @@
 -- The grammar gives bytes one answer at most: no text begins another, and what has a reading has no fault.
-use Rattle.std.proofs.Common.{◌≡◌, ℕ, suc, ◌+◌, ◌*◌, ◌/◌, ◌%◌, ◌^◌, ◌<◌, ◌≤◌, List, [], ◌∷◌, ◌++◌, length, take, drop, refl, sym, ap, subst, ◌∙◌, append_assoc, arith, Result, Ok, Err, inl, inr}
+use Rattle.std.proofs.Common.{◌≡◌, ℕ, suc, ◌+◌, ◌*◌, ◌/◌, ◌%◌, ◌^◌, ◌<◌, ◌≤◌, List, [], ◌∷◌, ◌++◌, length, refl, sym, ap, subst, ◌∙◌, append_assoc, arith, Result, Ok, Err, inl, inr}
 use Rattle.std.specs.Prelude.{IfOk, IfErr}
 use Rattle.std.specs.Int.{w32, w64, from_le_bytes, to_le_bytes}
 use Rattle.std.proofs.lemmas.Nat.{from_le_bytes-to_le_bytes_4, from_le_bytes-to_le_bytes_8}
 use Rattle.std.proofs.Math.Nat.{pow-suc}
-use Rattle.std.proofs.lemmas.List.{length-append, nil_from_length, take_at, drop_at}
+use Rattle.std.proofs.lemmas.List.{length-append, nil_from_length}
 use Rattle.pb_fields.specs.declared.field.Field.{Field}
 use Rattle.pb_fields.specs.declared.field.Value.{Value}
 use Rattle.pb_fields.specs.declared.field.Value.TheVariants as value
@@ -21,17 +21,11 @@ use Rattle.pb_fields.specs.Text as text
 use Rattle.pb_fields.specs.Faults.{AllGoOn, BrokenVarint, ends, too_large, BrokenValue, BrokenBehind, BrokenField, HasFault, IsFaultOf, fault_at, Answers}
 use Rattle.pb_fields.specs.Faults as broken
 use Rattle.pb_fields.proofs.Fields.{type_of_tag, number_of_tag, tag_fits}
+use Rattle.geo_base.proofs.Lists.{append_parts}
 
 -- the length of a value, and then the value and what follows
 sized : (a bytes c x : List ℕ) → TakesVarint a (length c) c → bytes ≡ a ++ x → TakesVarint bytes (length c) (c ++ x)
 sized a bytes c x s e = record { text = s.text; parts = e ∙ ap (λ (k : List ℕ). k ++ x) s.parts ∙ append_assoc s.text c x; varint = s.varint }
-
--- two lists that are one, cut at the same length
-same_cut : (a b x y : List ℕ) → length a ≡ length b → a ++ x ≡ b ++ y → (a ≡ b) × (x ≡ y)
-same_cut a b x y len e = (
-  sym (take_at a x (length a) refl) ∙ ap (λ (s : List ℕ). take (length a) s) e ∙ take_at b y (length a) (sym len),
-  sym (drop_at a x (length a) refl) ∙ ap (λ (s : List ℕ). drop (length a) s) e ∙ drop_at b y (length a) (sym len),
-)
 
 head_is : (a b : ℕ) (x y : List ℕ) → a ∷ x ≡ b ∷ y → a ≡ b
 head_is a b x y e = cc
@@ -61,7 +55,7 @@ groups_some : {a : List ℕ} {n : ℕ} → IsGroups a n → 0 < length a
 groups_some (last small is) = omega arith
 groups_some (more goes byte is g) = omega arith
 
--- behind as many bytes as there are groups before it, the last byte is small
+-- after as many bytes as there are groups before it, the last byte is small
 tenth_small : {a : List ℕ} {m : ℕ} → IsGroups a m → (x front rest : List ℕ) (t : ℕ) → a ++ x ≡ front ++ t ∷ rest → AllGoOn front → length a ≤ length front + 1 → m < 2 * 128 ^ length front → t ≤ 1
 tenth_small (last {b = a} small is) x [] rest t e h len below = let same = head_is a t x rest e in omega arith
 tenth_small (last {b = a} small is) x (c ∷ cs) rest t e h len below = absurd (let same = head_is a c x (cs ++ t ∷ rest) e in omega (arith, h.0))
@@ -74,7 +68,7 @@ pub varint_one : (bytes x y : List ℕ) (m n : ℕ) → TakesVarint bytes m x �
 varint_one bytes x y m n s t =
     let whole : s.text ++ x ≡ t.text ++ y = sym s.parts ∙ t.parts in
     let one = groups_one s.varint.groups t.varint.groups x y whole in
-    (one.1, (same_cut s.text t.text x y (ap (λ (k : List ℕ). length k) one.0) whole).1)
+    (one.1, (append_parts s.text t.text x y (ap (λ (k : List ℕ). length k) one.0) whole).1)
 
 pub varint_sound : (bytes x : List ℕ) (n : ℕ) (why : FieldFault) → TakesVarint bytes n x → BrokenVarint bytes why → ⊥
 varint_sound bytes x n why t (ends goes short) = groups_end t.varint.groups x bytes (sym t.parts) goes
@@ -96,19 +90,19 @@ broken_varint_one bytes a b (too_large nine tenth rest parts goes len above) (to
 pub value_one : {a b : List ℕ} {u v : Value} → IsValue a u → IsValue b v → wire_type u ≡ wire_type v → (x y : List ℕ) → a ++ x ≡ b ++ y → (u ≡ v) × (x ≡ y)
 value_one {a = a} {b = b} (text.varint s) (text.varint t) w x y e =
     let one = groups_one s.groups t.groups x y e in
-    (ap (λ (k : ℕ). value.Varint k) one.1, (same_cut a b x y (ap (λ (k : List ℕ). length k) one.0) e).1)
+    (ap (λ (k : ℕ). value.Varint k) one.1, (append_parts a b x y (ap (λ (k : List ℕ). length k) one.0) e).1)
 value_one {a = a} {b = b} (text.fixed64 {n = m} fits is) (text.fixed64 {n = n} fits' is') w x y e =
-    let cut = same_cut a b x y (ap (λ (k : List ℕ). length k) is ∙ sym (ap (λ (k : List ℕ). length k) is')) e in
+    let cut = append_parts a b x y (ap (λ (k : List ℕ). length k) is ∙ sym (ap (λ (k : List ℕ). length k) is')) e in
     let same : to_le_bytes w64 m ≡ to_le_bytes w64 n = sym is ∙ cut.0 ∙ is' in
     (ap (λ (k : ℕ). value.Fixed64 k) (sym (from_le_bytes-to_le_bytes_8 m fits) ∙ ap (λ (k : List ℕ). from_le_bytes w64 k) same ∙ from_le_bytes-to_le_bytes_8 n fits'), cut.1)
 value_one {a = a} {b = b} (text.bytes {content = c} s) (text.bytes {content = d} t) w x y e =
     let whole : s.text ++ (c ++ x) ≡ t.text ++ (d ++ y) = sym (append_assoc s.text c x) ∙ ap (λ (k : List ℕ). k ++ x) (sym s.parts) ∙ e ∙ ap (λ (k : List ℕ). k ++ y) t.parts ∙ append_assoc t.text d y in
     let one = groups_one s.varint.groups t.varint.groups (c ++ x) (d ++ y) whole in
-    let rest = (same_cut s.text t.text (c ++ x) (d ++ y) (ap (λ (k : List ℕ). length k) one.0) whole).1 in
-    let cut = same_cut c d x y one.1 rest in
+    let rest = (append_parts s.text t.text (c ++ x) (d ++ y) (ap (λ (k : List ℕ). length k) one.0) whole).1 in
+    let cut = append_parts c d x y one.1 rest in
     (ap (λ (k : List ℕ). value.Bytes k) cut.0, cut.1)
 value_one {a = a} {b = b} (text.fixed32 {n = m} fits is) (text.fixed32 {n = n} fits' is') w x y e =
-    let cut = same_cut a b x y (ap (λ (k : List ℕ). length k) is ∙ sym (ap (λ (k : List ℕ). length k) is')) e in
+    let cut = append_parts a b x y (ap (λ (k : List ℕ). length k) is ∙ sym (ap (λ (k : List ℕ). length k) is')) e in
     let same : to_le_bytes w32 m ≡ to_le_bytes w32 n = sym is ∙ cut.0 ∙ is' in
     (ap (λ (k : ℕ). value.Fixed32 k) (sym (from_le_bytes-to_le_bytes_4 m fits) ∙ ap (λ (k : List ℕ). from_le_bytes w32 k) same ∙ from_le_bytes-to_le_bytes_4 n fits'), cut.1)
 value_one s t w x y e = absurd cc

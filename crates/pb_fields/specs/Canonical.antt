@@ -8,7 +8,7 @@ use Rattle.pb_fields.specs.declared.field.Value.TheVariants as value
 use Rattle.pb_fields.specs.declared.field.WireType.TheVariants as wire
 use Rattle.pb_fields.specs.Field.{wire_number, wire_type}
 
--- the groups of a number that has at most so many behind the first
+-- the groups of a number that has at most so many after the first
 unfoldable pub groups : ℕ → ℕ → List ℕ
 groups zero n = n ∷ []
 groups (suc more) n = if nat_lt n 128 then n ∷ [] else (128 + n % 128) ∷ groups more (n / 128)

@@ -32,7 +32,7 @@ pub data BrokenValue : WireType → List ℕ → FieldFault → Type 0 where
   content : {bytes rest : List ℕ} {n : ℕ} → TakesVarint bytes n rest → length rest < n → BrokenValue wire.Bytes bytes fault.Truncated
   fixed32 : {bytes : List ℕ} → length bytes < 4 → BrokenValue wire.Fixed32 bytes fault.Truncated
 
--- What is wrong behind a tag, in the order of judgement: the tag has more than 32 bits; its wire type is none of the
+-- What is wrong after a tag, in the order of judgement: the tag has more than 32 bits; its wire type is none of the
 -- four; the field's number is 0; the value is broken.
 pub data BrokenBehind (tag : ℕ) : List ℕ → FieldFault → Type 0 where
   too_large : {rest : List ℕ} → 2 ^ 32 ≤ tag → BrokenBehind tag rest fault.Varint
@@ -45,7 +45,7 @@ pub data BrokenField : List ℕ → FieldFault → Type 0 where
   tag : {b : ℕ} {bytes : List ℕ} {why : FieldFault} → BrokenVarint (b ∷ bytes) why → BrokenField (b ∷ bytes) why
   behind : {bytes rest : List ℕ} {n : ℕ} {why : FieldFault} → TakesVarint bytes n rest → BrokenBehind n rest why → BrokenField bytes why
 
--- Behind some whole fields comes one without a reading. Its tag begins at the given offset.
+-- After some whole fields comes one without a reading. Its tag begins at the given offset.
 pub record HasFault (bytes : List ℕ) (why : FieldFault) (at : ℕ) : Type 0 where
   pub fields : List Field
   pub text : List ℕ

@@ -46,7 +46,7 @@ impl Buffer {
         Blob::from_vec(self.bytes)
     }
 
-    /// Puts bytes behind the others.
+    /// Puts bytes after the others.
     pub fn put(&mut self, content: &[u8])
         requires { length content.now ≤ self.old.spare }
         ensures { Puts self.old content.now self.new }
@@ -79,7 +79,7 @@ impl Buffer {
         self.put(content);
     }
 
-    /// Puts what precedes the content of a field, its tag and its length; so the content of an embedded message is put behind it,
+    /// Puts what precedes the content of a field, its tag and its length; so the content of an embedded message is put after it,
     /// and is not copied.
     pub fn put_head(&mut self, number: u32, len: usize)
         requires number { IsShortNumber number }

@@ -9,7 +9,7 @@ ghost use Rattle.pb_fields.specs.Varint.{TakesVarint};
 use crate::field::WireType;
 use crate::read::{content_at, number_and_type, varint_at};
 
-/// A field with a varint, and a field with a length behind it. They take no memory.
+/// A field with a varint, and a field with a length after it. They take no memory.
 #[derive(Clone, Copy)]
 pub struct FieldPair<'a> {
     /// The number of the first field.
@@ -22,7 +22,7 @@ pub struct FieldPair<'a> {
     pub content: &'a [u8],
 }
 
-/// The number of the field at the front of the bytes, where it is of a wire type, and the bytes behind its tag.
+/// The number of the field at the front of the bytes, where it is of a wire type, and the bytes after its tag.
 fn tag_of(bytes: &[u8], wire: WireType) -> Option<(u32, &[u8])>
     ensures { MatchOption result
         ((f : Field) (rest : List ℕ) → wire_type f.value ≡ wire → TakesField bytes.now f rest → ⊥)

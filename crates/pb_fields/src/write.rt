@@ -71,7 +71,7 @@ fn push_field(out: &mut Blob, field: &Field) -> Result<(), Memory>
     push_value(out, &field.value)
 }
 
-/// Takes back what was appended behind the first `before` bytes where the writing stopped for want of memory.
+/// Takes back what was appended after the first `before` bytes where the writing stopped for want of memory.
 fn all_or_nothing(out: &mut Blob, before: usize, written: Result<(), Memory>) -> Result<(), Memory>
     ensures ok { OnOk result (out.new ≡ out.old) }
     ensures err { OnErr result (out.new ≡ take before out.old) }
@@ -144,7 +144,7 @@ fn push_bytes_field(out: &mut Blob, number: u32, content: &[u8]) -> Result<(), M
 }
 
 /// Appends what precedes the content of a field, its tag and its length, as `write_field` does; so the content of an embedded
-/// message is written behind it, and is not copied.
+/// message is written after it, and is not copied.
 pub fn write_head(out: &mut Blob, number: u32, len: usize) -> Result<(), Memory>
     requires { IsFieldNumber number }
     ensures ok { OnOk result (out.new ≡ out.old ++ head_text number len) }

@@ -35,7 +35,7 @@ use Rattle.pulsar_commands.proofs.UsualCommands.{length-two}
 
 -- ---- read
 
--- fields behind fields
+-- fields after fields
 both_fronts : (a b c : List ℕ) (fs gs : List Field) → Fronts a fs b → Fronts b gs c → Fronts a (fs ++ gs) c
 both_fronts a b c fs gs h k = record {
   text = λ hs t. subst (λ (l : List Field). IsText a l) (sym (append_assoc fs gs hs)) (h.text (gs ++ hs) (k.text hs t));
@@ -58,7 +58,7 @@ AreIds-append (v ∷ vs) (p ∷ ps) ws qs h k = (h.0, AreIds-append vs ps ws qs 
 AreIds-append [] (p ∷ ps) ws qs h k = absurd h
 AreIds-append (v ∷ vs) [] ws qs h k = absurd h
 
--- positions behind positions
+-- positions after positions
 pub more_ids : (a b c : List ℕ) (ps qs rs : List Position) → FrontIds a ps b → FrontIds b qs c → rs ≡ ps ++ qs → FrontIds a rs c
 more_ids a b c ps qs rs h k is =
     subst (λ (x : List Position). FrontIds a x c) (sym is) (record {
@@ -72,7 +72,7 @@ ack_below : (k : AckKind) → ack_number k < 2
 ack_below ack_kind.Individual = omega arith
 ack_below ack_kind.Cumulative = omega arith
 
--- the two numbers, and the positions behind them
+-- the two numbers, and the positions after them
 pub ack_is : (content rest : List ℕ) (id : ℕ) (k : AckKind) (ps : List Position) → Fronts content (varint_field 1 id ∷ varint_field 2 (ack_number k) ∷ []) rest → FrontIds rest ps [] → IsHeldText kind.Ack content (command.Ack id k ps)
 ack_is content rest id k ps front ids = record {
   held = varint_field 1 id ∷ varint_field 2 n ∷ fs;

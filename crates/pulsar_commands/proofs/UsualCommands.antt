@@ -171,7 +171,7 @@ pieces_length c =
     let own : length (head_text k (length body) ++ body) ≡ length (field_text (bytes_field k body)) = ap (λ (bs : List ℕ). length bs) (head_content k body) in
     omega (arith, own, length-append (head_text k (length body)) body, length-two (field_text (varint_field 1 k)) (field_text (bytes_field k body)))
 
--- what is left for the body behind the type and the head
+-- what is left for the body after the type and the head
 pub body_left : (v : CommandView) (size : ℕ) → size ≡ length (command_text (command_viewed v)) → size < 64 → size ≡ 4 + length (body_text (command_viewed v))
 body_left v size is few =
     let short : length (body_text (command_viewed v)) < 128 = omega (arith, is, few, pieces_length (command_viewed v)) in

@@ -1,7 +1,7 @@
 pub mod Table
 pub mod Part
 pub mod Parts
-pub mod Senders
+pub mod Replicators
 pub mod Text
 pub mod Faults
 pub mod Canonical

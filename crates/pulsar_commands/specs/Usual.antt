@@ -1,5 +1,5 @@
 -- Commands of the usual form (own): SEND, its receipt and MESSAGE with every field that they have, and ACK, whose positions stand one
--- after another behind its other two.
+-- after another after its other two.
 use Rattle.std.specs.Prelude.{List, ℕ, Some, map}
 use Rattle.std.specs.List.{AllByRecursion}
 use Rattle.geo_base.specs.declared.position.Position.{Position}

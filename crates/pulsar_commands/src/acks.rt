@@ -1,5 +1,5 @@
 //! ACKs of the usual form: the consumer's number, the type, and then the positions one after another, and nothing more. One names many
-//! positions, so they are read into one list, and written behind a size that was counted before.
+//! positions, so they are read into one list, and written after a size that was counted before.
 
 ghost use Rattle.std.specs.Prelude.{◌≡◌, ◌<◌, ◌≤◌, ◌*◌, ◌∷◌, [], length, map, IfOk, IfSome};
 ghost use Rattle.std.specs.List.{AllByRecursion};
@@ -22,7 +22,7 @@ use geo_base::{AckKind, Memory, Position};
 use pb_fields::{Buffer, SHORT_HEAD, front_bytes, front_varint, varint_field_size};
 use std::alloc::Global;
 
-/// The fewest bytes of a position in an ACK: its head, and two numbers of a byte each behind their tags.
+/// The fewest bytes of a position in an ACK: its head, and two numbers of a byte each after their tags.
 const LEAST_ID_BYTES: usize = 6;
 
 /// An ACK's own message has fewer bytes: at most 24 of each of `ACKED_AT_ONCE` positions, and 22 of the two numbers before them.
@@ -141,7 +141,7 @@ impl<'a> AckView<'a> {
         varint_field_size(TYPE, u64::from(number)) + varint_field_size(number, body as u64) + body
     }
 
-    /// Puts its canonical text, of which so many bytes are its own message, behind the bytes of a buffer that has room for it.
+    /// Puts its canonical text, of which so many bytes are its own message, after the bytes of a buffer that has room for it.
     pub fn put(self, out: &mut Buffer, body: usize)
         requires body { body ≡ length (body_text (ack_viewed self)) }
         requires few { body < ACK_BODY_BOUND }

@@ -166,7 +166,7 @@ pub(crate) fn append_id(out: &mut Blob, number: u32, position: Position) -> Resu
     write_varint(out, ENTRY, position.entry)
 }
 
-/// Puts an id behind the bytes of a buffer that has room for it.
+/// Puts an id after the bytes of a buffer that has room for it.
 pub(crate) fn put_id(out: &mut Buffer, number: u32, position: Position)
     requires number { IsShortNumber number }
     requires room { length (field_text (id_field number position)) ≤ out.old.spare }

@@ -165,7 +165,7 @@ impl CommandView {
         TYPE_BYTES + SHORT_HEAD + self.body_size()
     }
 
-    /// Puts its canonical text, whose size `size` gave, behind the bytes of a buffer that has room for it.
+    /// Puts its canonical text, whose size `size` gave, after the bytes of a buffer that has room for it.
     pub fn put(self, out: &mut Buffer, size: usize)
         requires size { size ≡ length (command_text (command_viewed self)) }
         requires few { size < 64 }

@@ -1,21 +1,14 @@
 -- Bytes have one layout at most at their front, one thing wrong with it at most, and only one of: a layout, something
 -- wrong, less than a frame.
-use Rattle.std.proofs.Common.{◌≡◌, ℕ, ◌+◌, ◌<◌, ◌≤◌, ◌^◌, List, ◌∷◌, ◌++◌, Option, Some, None, length, take, drop, refl, sym, ap, subst, ◌∙◌, append_assoc, length-append, arith}
-use Rattle.std.proofs.lemmas.List.{take_at, drop_at}
+use Rattle.std.proofs.Common.{◌≡◌, ℕ, ◌+◌, ◌<◌, ◌≤◌, ◌^◌, List, ◌∷◌, ◌++◌, Option, Some, None, length, refl, sym, ap, subst, ◌∙◌, append_assoc, length-append, arith}
 use Rattle.pulsar_frames.specs.declared.fault.FrameFault.{FrameFault}
 use Rattle.pulsar_frames.specs.declared.fault.FrameFault.TheVariants as fault
 use Rattle.pulsar_frames.specs.Layout.{size, sized, Layout, BodyLayout, body_text, content_text, layout_text, Fits, TakesLayout, IsUnfinished, begun, under_way, IsCut, no_size, short, HasChecksum, BrokenContent, command, checksum, meta, BrokenLayout, too_large, content, frame_limit}
 use Rattle.pulsar_frames.proofs.SizeTexts.{length-size, size_one}
-
--- two lists that are one, cut at the same length
-same_cut : (a b x y : List ℕ) → length a ≡ length b → a ++ x ≡ b ++ y → (a ≡ b) × (x ≡ y)
-same_cut a b x y len e = (
-  sym (take_at a x (length a) refl) ∙ ap (λ (s : List ℕ). take (length a) s) e ∙ take_at b y (length a) (sym len),
-  sym (drop_at a x (length a) refl) ∙ ap (λ (s : List ℕ). drop (length a) s) e ∙ drop_at b y (length a) (sym len),
-)
+use Rattle.geo_base.proofs.Lists.{append_parts}
 
 size_cut : (m n : ℕ) (a b : List ℕ) → m < 2 ^ 32 → n < 2 ^ 32 → size m ++ a ≡ size n ++ b → (m ≡ n) × (a ≡ b)
-size_cut m n a b hm hn e = let cut = same_cut (size m) (size n) a b (length-size m ∙ sym (length-size n)) e in (size_one m n hm hn cut.0, cut.1)
+size_cut m n a b hm hn e = let cut = append_parts (size m) (size n) a b (length-size m ∙ sym (length-size n)) e in (size_one m n hm hn cut.0, cut.1)
 
 sized_parts : (a x : List ℕ) → sized a ++ x ≡ size (length a) ++ (a ++ x)
 sized_parts a x = append_assoc (size (length a)) a x
@@ -23,7 +16,7 @@ sized_parts a x = append_assoc (size (length a)) a x
 sized_one : (a b x y : List ℕ) → length a < 2 ^ 32 → length b < 2 ^ 32 → sized a ++ x ≡ sized b ++ y → (a ≡ b) × (x ≡ y)
 sized_one a b x y ha hb e =
     let cut = size_cut (length a) (length b) (a ++ x) (b ++ y) ha hb (sym (sized_parts a x) ∙ e ∙ sized_parts b y) in
-    same_cut a b x y cut.0 cut.1
+    append_parts a b x y cut.0 cut.1
 
 pub length-sized : (a : List ℕ) → length (sized a) ≡ 4 + length a
 length-sized a = omega (arith, length-append (size (length a)) a, length-size (length a))

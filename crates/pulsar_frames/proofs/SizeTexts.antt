@@ -26,7 +26,7 @@ pub size_front : (bs : List ℕ) → 4 ≤ length bs → ((i : ℕ) → get_or b
 unfolding size
 size_front bs long are = sym (ap (λ (xs : List ℕ). xs ++ drop 4 bs) (be_bytes_4 (take 4 bs) (from_be_bytes w32 (take 4 bs)) (omega (arith, length-take 4 bs)) (are_bytes 4 bs are) refl) ∙ take-append-drop 4 bs)
 
--- so many bytes behind their number
+-- so many bytes after their number
 pub sized_split : (bs after : List ℕ) (n : ℕ) → bs ≡ size n ++ after → n ≤ length after → bs ≡ sized (take n after) ++ drop n after
 sized_split bs after n e le =
     let len : length (take n after) ≡ n = omega (arith, length-take n after) in

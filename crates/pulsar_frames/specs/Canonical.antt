@@ -1,4 +1,4 @@
--- The canonical text of a frame: those of its command and its metadata, behind their sizes.
+-- The canonical text of a frame: those of its command and its metadata, after their sizes.
 use Rattle.std.specs.Prelude.{◌≡◌, ℕ, ◌<◌, List, length, Some, is_some, IfSome}
 use Rattle.std.specs.Option.{option_map}
 use Rattle.pb_fields.specs.Canonical.{text}

@@ -13,7 +13,7 @@ frame_limit = 5253120
 unfoldable pub size : ℕ → List ℕ
 size n = to_be_bytes w32 n
 
--- bytes behind their size
+-- bytes after their size
 abbrev pub sized : List ℕ → List ℕ
 sized bytes = size (length bytes) ++ bytes
 

@@ -24,7 +24,7 @@ use pulsar_commands::Command;
 use std::alloc::Global;
 
 /// The canonical text of a frame whose message is there exactly where its command carries one: the canonical texts of
-/// its command and its metadata, each behind its size.
+/// its command and its metadata, each after its size.
 pub fn write_frame(alloc: Global, frame: &Frame) -> Result<Blob, FrameFault>
     requires { IsComplete frame.now }
     ensures canonical { IfOk result (λ bytes. bytes ≡ frame_text frame.now) }
@@ -98,7 +98,7 @@ pub fn write_carrying(
     )
 }
 
-/// The text of parts, each behind its size.
+/// The text of parts, each after its size.
 fn write_parts(alloc: Global, parts: FrameParts<'_>) -> Result<Blob, FrameFault>
     ensures ok { IfOk result (λ bytes. bytes ≡ layout_text (layout parts.entry)) }
     ensures fits { OnOk result (Fits (layout parts.entry)) }
@@ -127,7 +127,7 @@ fn total_size(parts: FrameParts<'_>) -> u64
     }
 }
 
-/// The parts one after another, behind the total size.
+/// The parts one after another, after the total size.
 fn join(alloc: Global, total: u64, parts: FrameParts<'_>) -> Result<Blob, Memory>
     requires total { total ≡ length (content_text (layout parts)) }
     requires fits { total ≤ frame_limit }

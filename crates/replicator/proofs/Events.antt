@@ -1,5 +1,5 @@
--- The machine's events are what a sender and a receiver answer, branch by branch: a broker that reads does what its sender to the
--- other cluster answers, one that takes a packet what its receiver does, and one that hears an answer what its sender makes of it.
+-- The machine's events are what a replicator and a receiver answer, branch by branch: a broker that reads does what its replicator to the
+-- other cluster answers, one that takes a packet what its receiver does, and one that hears an answer what its replicator makes of it.
 use Rattle.std.proofs.Common.{◌≡◌, ℕ, ◌==◌, Bool, true, false, List, [], length, refl, ap, sym, ◌∙◌}
 use Rattle.std.specs.Prelude.{◌&&◌, if◌then◌else◌, Option, Some, None, slice_get}
 use Rattle.std.specs.Str.{bytes_eq}
@@ -9,16 +9,16 @@ use Rattle.geo_base.specs.declared.entry.Entry.{Entry}
 use Rattle.geo_base.specs.declared.frame.Frame.{Frame}
 use Rattle.geo_base.specs.declared.frame.Frame.TheVariants as frame
 use Rattle.geo_base.specs.declared.packet.Packet.{Packet}
-use Rattle.geo_base.specs.declared.sender.SenderState.{SenderState}
-use Rattle.geo_base.specs.declared.sender.SenderState.TheVariants as sender_state
-use Rattle.geo_base.specs.Broker.{Broker, Site, receiver_at, sender_at}
+use Rattle.geo_base.specs.declared.replicator.ReplicatorState.{ReplicatorState}
+use Rattle.geo_base.specs.declared.replicator.ReplicatorState.TheVariants as replicator_state
+use Rattle.geo_base.specs.Broker.{Broker, Site, receiver_at, replicator_at}
 use Rattle.geo_base.specs.Entry.{goes_to}
 use Rattle.geo_base.specs.Forwarding.{closes, is_remote, opens, receipt_command, receipt_packet, receives, take_command, take_frame, take_in}
 use Rattle.geo_base.specs.Markers.{read_content}
 use Rattle.geo_base.specs.Plan.{Plan, idle_plan, quiet_plan, unless_found}
 use Rattle.geo_base.specs.Reading.{forwards, read, read_at, read_entry}
 use Rattle.geo_base.specs.Receiver.{is_open}
-use Rattle.geo_base.specs.Sender.{Sender, index_to_read, pending_index}
+use Rattle.geo_base.specs.Replicator.{Replicator, index_to_read, pending_index}
 use Rattle.replicator.specs.declared.reading.ReadOut.TheVariants as reads
 use Rattle.replicator.specs.declared.receiver.Taken.TheVariants as takes
 use Rattle.replicator.specs.declared.answering.Heard.TheVariants as hears
@@ -43,20 +43,20 @@ read_as_content h b y i e (content.Unread k) at is = refl
 read_as_content h b y i e (content.Marked m) at is =
     sym (ap (λ (c : Content). read_content h b y i c) is) ∙ at_entry (slice_get b.entries i) e (λ (e : Entry). read_content h b y i e.content) at
 
-read_as_entry : (h : Site) (b : Broker) (y i : ℕ) (o : Option Entry) → slice_get b.entries i ≡ o → read_entry h b y i o ≡ plan_of_read h b y (read_out_entry h.own y (sender_at b y).next i o)
+read_as_entry : (h : Site) (b : Broker) (y i : ℕ) (o : Option Entry) → slice_get b.entries i ≡ o → read_entry h b y i o ≡ plan_of_read h b y (read_out_entry h.own y (replicator_at b y).next i o)
 read_as_entry h b y i None at = refl
 read_as_entry h b y i (Some e) at =
-    by_test (plan_of_read h b y) ((e.ident.origin == h.own) && goes_to y e.to) _ _ (reads.Send i (sender_at b y).next) (if e.ident.origin == y then read_out_other i e.content else reads.Skip i)
-    (at_entry (slice_get b.entries i) e (λ (e : Entry). forwards h y (sender_at b y) i e) at)
+    by_test (plan_of_read h b y) ((e.ident.origin == h.own) && goes_to y e.to) _ _ (reads.Send i (replicator_at b y).next) (if e.ident.origin == y then read_out_other i e.content else reads.Skip i)
+    (at_entry (slice_get b.entries i) e (λ (e : Entry). forwards h y (replicator_at b y) i e) at)
     (by_test (plan_of_read h b y) (e.ident.origin == y) _ _ (read_out_other i e.content) (reads.Skip i) (read_as_content h b y i e e.content at refl) refl)
 
-read_as_index : (h : Site) (b : Broker) (y : ℕ) (o : Option ℕ) → read_at h b y o ≡ plan_of_read h b y (read_out_at h.own y (sender_at b y).next b.entries o)
+read_as_index : (h : Site) (b : Broker) (y : ℕ) (o : Option ℕ) → read_at h b y o ≡ plan_of_read h b y (read_out_at h.own y (replicator_at b y).next b.entries o)
 read_as_index h b y None = refl
 read_as_index h b y (Some i) = read_as_entry h b y i (slice_get b.entries i) refl
 
-pub read_as_answered : (h : Site) (b : Broker) (y : ℕ) → is_remote h y ≡ true → read h b y ≡ plan_of_read h b y (read_out h.own y (sender_at b y) b.entries)
+pub read_as_answered : (h : Site) (b : Broker) (y : ℕ) → is_remote h y ≡ true → read h b y ≡ plan_of_read h b y (read_out h.own y (replicator_at b y) b.entries)
 unfolding read
-read_as_answered h b y remote = rw remote (read_as_index h b y (index_to_read (sender_at b y).state (sender_at b y) (length b.entries)))
+read_as_answered h b y remote = rw remote (read_as_index h b y (index_to_read (replicator_at b y).state (replicator_at b y) (length b.entries)))
 
 -- what does not open a session counts in the one that is open
 in_session : (h : Site) (b : Broker) (x : ℕ) (p : Packet) (f : Frame) → p.frame ≡ f → take_in h b x p ≡ plan_of_take h b x p.session f (if is_open (receiver_at b x) p.session then takes.Process else takes.Discard)
@@ -101,10 +101,10 @@ quiet_both : (t : Bool) → (if t then quiet_plan [] else quiet_plan []) ≡ qui
 quiet_both true = refl
 quiet_both false = refl
 
-success_as_heard : (y : ℕ) (current : Bool) (state : SenderState) → (if current then opens y state else quiet_plan []) ≡ plan_of_answer y (if current && is_opening state then hears.Opened else hears.Nothing)
-success_as_heard y true sender_state.Opening = refl
-success_as_heard y true sender_state.Open = refl
-success_as_heard y true sender_state.Closed = refl
+success_as_heard : (y : ℕ) (current : Bool) (state : ReplicatorState) → (if current then opens y state else quiet_plan []) ≡ plan_of_answer y (if current && is_opening state then hears.Opened else hears.Nothing)
+success_as_heard y true replicator_state.Opening = refl
+success_as_heard y true replicator_state.Open = refl
+success_as_heard y true replicator_state.Closed = refl
 success_as_heard y false state = refl
 
 index_as_heard : (y number : ℕ) (o : Option ℕ) → receives y number o ≡ plan_of_answer y (heard_receipt number o)
@@ -115,7 +115,7 @@ receipt_as_heard : (y number : ℕ) (current : Bool) (o : Option ℕ) → (if cu
 receipt_as_heard y number true o = index_as_heard y number o
 receipt_as_heard y number false o = refl
 
-frame_as_heard : (y session : ℕ) (f : Frame) (s : Sender) → (if session == s.session then receipt_command y s f else quiet_plan []) ≡ plan_of_answer y (heard session f (sending_of s))
+frame_as_heard : (y session : ℕ) (f : Frame) (s : Replicator) → (if session == s.session then receipt_command y s f else quiet_plan []) ≡ plan_of_answer y (heard session f (sending_of s))
 frame_as_heard y session (frame.ProducerSuccess request name) s = success_as_heard y (session == s.session) s.state
 frame_as_heard y session (frame.SendReceipt id number position) s = receipt_as_heard y number (session == s.session) (pending_index s.pending number)
 frame_as_heard y session frame.Connect s = quiet_both (session == s.session)
@@ -136,6 +136,6 @@ frame_as_heard y session frame.Ping s = quiet_both (session == s.session)
 frame_as_heard y session frame.Pong s = quiet_both (session == s.session)
 frame_as_heard y session frame.Unreadable s = quiet_both (session == s.session)
 
--- a packet of the back link does what its sender hears
-pub answer_as_heard : (b : Broker) (y : ℕ) (p : Packet) → receipt_packet b y p ≡ plan_of_answer y (heard p.session p.frame (sending_of (sender_at b y)))
-answer_as_heard b y p = frame_as_heard y p.session p.frame (sender_at b y)
+-- a packet of the back link does what its replicator hears
+pub answer_as_heard : (b : Broker) (y : ℕ) (p : Packet) → receipt_packet b y p ≡ plan_of_answer y (heard p.session p.frame (sending_of (replicator_at b y)))
+answer_as_heard b y p = frame_as_heard y p.session p.frame (replicator_at b y)

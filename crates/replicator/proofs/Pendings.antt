@@ -5,10 +5,11 @@ use Rattle.std.specs.List.{All, remove}
 use Rattle.std.specs.Option.{IfSome}
 use Rattle.std.proofs.lemmas.Bool.Decides.{nat_tests}
 use Rattle.std.proofs.lemmas.List.Elements.{All-cons, All-tail}
-use Rattle.geo_base.specs.declared.sender.Pending.{Pending}
+use Rattle.geo_base.specs.declared.replicator.Pending.{Pending}
 use Rattle.geo_base.specs.Ascending.{IsAscending, IsGap, IsHere}
-use Rattle.geo_base.specs.Sender.{pending_index, without_number}
+use Rattle.geo_base.specs.Replicator.{pending_index, without_number}
 use Rattle.replicator.specs.Sending.{number_of}
+use Rattle.geo_base.proofs.Bools.{if_both}
 
 -- those before a place have other numbers
 found : (ps : List Pending) (n at : ℕ) (d : Pending) → at < length ps → ((k : ℕ) → k < at → number_of (get_or ps k d) ≡ n → ⊥) → number_of (get_or ps at d) ≡ n → (pending_index ps n ≡ Some (get_or ps at d).index) × (without_number ps n ≡ remove ps at)
@@ -59,17 +60,13 @@ none_taken (p ∷ ps) n h = by_number (p.number == n) p ps n h (none_taken ps n)
     by_number true p ps n h rest = absurd cc
     by_number false p ps n h rest = ap (λ qs. p ∷ qs) (rest h)
 
-on_if : {X : Type 0} (P : X → Type 0) (b : Bool) (x y : X) → P x → P y → P (if b then x else y)
-on_if P true x y h k = h
-on_if P false x y h k = k
-
 -- what holds of all that await a receipt holds of the one that is found, and of those that are left
 pub some_found : (P : ℕ → Type 0) (ps : List Pending) (n : ℕ) → All (λ (p : Pending). P p.index) ps → IfSome (pending_index ps n) P
 some_found P [] n h = tt
 some_found P (p ∷ ps) n h =
-    on_if (λ (o : Option ℕ). IfSome o P) (p.number == n) (Some p.index) (pending_index ps n) (h zero p (omega arith)) (some_found P ps n (All-tail (λ (p : Pending). P p.index) p ps h))
+    if_both (λ (o : Option ℕ). IfSome o P) (p.number == n) (Some p.index) (pending_index ps n) (h zero p (omega arith)) (some_found P ps n (All-tail (λ (p : Pending). P p.index) p ps h))
 
 pub all_left : (P : Pending → Type 0) (ps : List Pending) (n : ℕ) → All P ps → All P (without_number ps n)
 all_left P [] n h = h
 all_left P (p ∷ ps) n h =
-    on_if (All P) (p.number == n) ps (p ∷ without_number ps n) (All-tail P p ps h) (All-cons P p (without_number ps n) (h zero p (omega arith)) (all_left P ps n (All-tail P p ps h)))
+    if_both (All P) (p.number == n) ps (p ∷ without_number ps n) (All-tail P p ps h) (All-cons P p (without_number ps n) (h zero p (omega arith)) (all_left P ps n (All-tail P p ps h)))

@@ -1,4 +1,4 @@
--- The machine's events, told by what a sender and a receiver answer.
+-- The machine's events, told by what a replicator and a receiver answer.
 use Rattle.std.specs.Prelude.{ℕ, Bool, true, false, ◌==◌, ◌&&◌, [], ◌∷◌, Some, slice_get}
 use Rattle.std.specs.Str.{bytes_eq}
 use Rattle.geo_base.specs.declared.change.Change.TheVariants as change
@@ -7,7 +7,7 @@ use Rattle.geo_base.specs.declared.frame.Frame.{Frame}
 use Rattle.geo_base.specs.declared.frame.Frame.TheVariants as frame
 use Rattle.geo_base.specs.declared.packet.Peer.TheVariants as peer
 use Rattle.geo_base.specs.declared.write.Write.TheVariants as write
-use Rattle.geo_base.specs.Broker.{Broker, Site, sender_at}
+use Rattle.geo_base.specs.Broker.{Broker, Site, replicator_at}
 use Rattle.geo_base.specs.Forwarding.{link_producer, take_command}
 use Rattle.geo_base.specs.Link.{sends}
 use Rattle.geo_base.specs.Markers.{read_content}
@@ -26,7 +26,7 @@ abbrev pub plan_of_read : Site → Broker → ℕ → ReadOut → Plan
 plan_of_read h b y reads.Idle = idle_plan
 plan_of_read h b y (reads.Skip i) = handled y i [] []
 plan_of_read h b y (reads.Mark i) = unless_found idle_plan (slice_get b.entries i) (λ (e : Entry). read_content h b y i e.content)
-plan_of_read h b y (reads.Send i number) = unless_found idle_plan (slice_get b.entries i) (λ (e : Entry). forwards h y (sender_at b y) i e)
+plan_of_read h b y (reads.Send i number) = unless_found idle_plan (slice_get b.entries i) (λ (e : Entry). forwards h y (replicator_at b y) i e)
 
 -- a PRODUCER of the topic whose producer id is the packet's session is to open it
 abbrev pub is_to_open : Site → ℕ → Frame → Bool
@@ -53,4 +53,4 @@ plan_of_take h b x session f takes.Discard = quiet_plan []
 abbrev pub plan_of_answer : ℕ → Heard → Plan
 plan_of_answer y hears.Nothing = quiet_plan []
 plan_of_answer y hears.Opened = quiet_plan (change.Opened y ∷ [])
-plan_of_answer y (hears.Receipt number i) = plan_of (write.SenderAck y i ∷ []) (change.Unpend y number ∷ []) []
+plan_of_answer y (hears.Receipt number i) = plan_of (write.ReplicatorAck y i ∷ []) (change.Unpend y number ∷ []) []

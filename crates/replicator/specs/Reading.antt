@@ -1,10 +1,10 @@
--- What the sender of a cluster to another does with the entry that it reads next.
+-- What the replicator of a cluster to another does with the entry that it reads next.
 use Rattle.std.specs.Prelude.{◌≡◌, ℕ, ◌+◌, ◌-◌, ◌≤◌, ◌<◌, ◌^◌, ◌==◌, ◌&&◌, if◌then◌else◌, List, length, Option, Some, None, slice_get, ⊤}
 use Rattle.geo_base.specs.declared.entry.Content.{Content}
 use Rattle.geo_base.specs.declared.entry.Content.TheVariants as content
 use Rattle.geo_base.specs.declared.entry.Entry.{Entry}
 use Rattle.geo_base.specs.Entry.{goes_to}
-use Rattle.geo_base.specs.Sender.{Sender, index_to_read, sender_sent}
+use Rattle.geo_base.specs.Replicator.{Replicator, index_to_read, replicator_sent}
 use Rattle.replicator.specs.declared.reading.ReadOut.{ReadOut}
 use Rattle.replicator.specs.declared.reading.ReadOut.TheVariants as reads
 
@@ -27,15 +27,15 @@ read_out_at own y next es None = reads.Idle
 read_out_at own y next es (Some i) = read_out_entry own y next i (slice_get es i)
 
 -- the entry at the least index that the cursor lacks, from where reading goes on, while the session is open
-abbrev pub read_out : ℕ → ℕ → Sender → List Entry → ReadOut
+abbrev pub read_out : ℕ → ℕ → Replicator → List Entry → ReadOut
 read_out own y s es = read_out_at own y s.next es (index_to_read s.state s (length es))
 
--- reading goes on behind the entry; what is sent awaits a receipt
-abbrev pub after_read : ReadOut → Sender → Sender
+-- reading goes on after the entry; what is sent awaits a receipt
+abbrev pub after_read : ReadOut → Replicator → Replicator
 after_read reads.Idle s = s
 after_read (reads.Skip i) s = record s { read_index = i + 1 }
 after_read (reads.Mark i) s = record s { read_index = i + 1 }
-after_read (reads.Send i number) s = sender_sent i s
+after_read (reads.Send i number) s = replicator_sent i s
 
 -- only what is sent takes room
 abbrev pub room_after : ReadOut → ℕ → ℕ
@@ -44,7 +44,7 @@ room_after (reads.Skip i) room = room
 room_after (reads.Mark i) room = room
 room_after (reads.Send i number) room = room - 1
 
--- an index that is read stands in a topic of so many entries, no more entries were sent than read, and the index behind it is
+-- an index that is read stands in a topic of so many entries, no more entries were sent than read, and the index after it is
 -- a 64-bit number
 pub record IndexFits (next len i : ℕ) : Type 0 where
   pub within : i < len

@@ -1,4 +1,4 @@
-//! The two ends of a replicator (geo-replication manual): a sender reads the own topic through a cursor and sends entry after
+//! The two ends of a replicator (geo-replication manual): a replicator reads the own topic through a cursor and sends entry after
 //! entry in a numbered session, a receiver knows which session is open. Session numbers are own: they tell what comes from
 //! an earlier connection apart.
 //!
@@ -11,9 +11,9 @@ mod answering;
 mod pending;
 mod reading;
 mod receiver;
-mod sender;
+mod replicator;
 
 pub use answering::Heard;
 pub use reading::ReadOut;
 pub use receiver::{Receiver, Taken};
-pub use sender::Sender;
+pub use replicator::Replicator;

@@ -1,9 +1,9 @@
 //! What was sent and awaits a receipt.
 ghost use Rattle.std.specs.Prelude.{◌≡◌, ◌<◌, ◌≤◌, ◌+◌, [], ◌∷◌, ◌++◌, length, ℕ, None, IfOk, IfErr, OnOk};
 ghost use Rattle.std.specs.List.{All};
-ghost use Rattle.geo_base.specs.declared.sender.Pending.{Pending};
+ghost use Rattle.geo_base.specs.declared.replicator.Pending.{Pending};
 ghost use Rattle.geo_base.specs.Ascending.{IsGap, IsHere};
-ghost use Rattle.geo_base.specs.Sender.{pending_index, without_number};
+ghost use Rattle.geo_base.specs.Replicator.{pending_index, without_number};
 ghost use Rattle.replicator.specs.Sending.{number_of};
 
 use geo_base::Pending;

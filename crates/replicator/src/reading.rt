@@ -1,14 +1,14 @@
-//! What a sender reads.
+//! What a replicator reads.
 ghost use Rattle.std.specs.Prelude.{◌≡◌, ◌≤◌, ◌<◌, ◌+◌, ◌^◌, ◌==◌, ◌&&◌, [], Some, length, IfSome};
-ghost use Rattle.geo_base.specs.Sender.{index_to_read};
+ghost use Rattle.geo_base.specs.Replicator.{index_to_read};
 ghost use Rattle.replicator.specs.Reading.{ReadFits, after_read, read_out, read_out_entry, read_out_other, room_after};
-ghost use Rattle.replicator.specs.Sending.{sender_with, sending_of};
+ghost use Rattle.replicator.specs.Sending.{replicator_with, sending_of};
 
-use crate::sender::Sender;
+use crate::replicator::Replicator;
 use cursor_acks::Cursor;
-use geo_base::{Content, Entry, EntryStore, SenderState};
+use geo_base::{Content, Entry, EntryStore, ReplicatorState};
 
-/// What a sender does with the entry that it reads next.
+/// What a replicator does with the entry that it reads next.
 #[derive(Clone, Copy, Drop, PartialEq, Eq)]
 pub enum ReadOut {
     /// There is nothing to read, or the session is not open.
@@ -21,17 +21,17 @@ pub enum ReadOut {
     Send(u64, u64),
 }
 
-impl Sender {
+impl Replicator {
     /// The index to read next: the least one from where reading goes on that the cursor lacks; `None` exactly where there is
     /// none, or the session is not open.
     pub fn index_to_read<S: EntryStore>(&self, store: &S, cursor: &Cursor) -> Option<u64>
-        ensures index { result ≡ index_to_read self.now.sending.state (sender_with cursor.now.indexes self.now.sending) (length (S.entries store.now)) }
+        ensures index { result ≡ index_to_read self.now.sending.state (replicator_with cursor.now.indexes self.now.sending) (length (S.entries store.now)) }
         ensures within { IfSome result (λ i. i < length (S.entries store.now)) }
         ensures next { IfSome result (λ i. self.now.sending.next ≤ i) }
         ensures fits { IfSome result (λ i. i + 1 < 2 ^ 64) }
     {
         match self.state() {
-            SenderState::Open => {
+            ReplicatorState::Open => {
                 let index = cursor.next_open(self.read_index());
                 if index < store.len() as u64 {
                     Some(index)
@@ -39,13 +39,13 @@ impl Sender {
                     None
                 }
             }
-            SenderState::Opening | SenderState::Closed => None,
+            ReplicatorState::Opening | ReplicatorState::Closed => None,
         }
     }
 
     /// What `read` would answer.
     pub fn next_read<S: EntryStore>(&self, store: &S, cursor: &Cursor) -> ReadOut
-        ensures read { result ≡ read_out self.now.own self.now.remote (sender_with cursor.now.indexes self.now.sending) (S.entries store.now) }
+        ensures read { result ≡ read_out self.now.own self.now.remote (replicator_with cursor.now.indexes self.now.sending) (S.entries store.now) }
         ensures fits { ReadFits self.now.remote self.now.sending.next (S.entries store.now) result }
     {
         let Some(index) = self.index_to_read(store, cursor) else {
@@ -62,8 +62,8 @@ impl Sender {
     /// replicated twice. It needs one of room, and takes it where an entry is to be sent.
     pub fn read<S: EntryStore>(&mut self, store: &S, cursor: &Cursor) -> ReadOut
         requires { 0 < self.old.room }
-        ensures read { result ≡ read_out self.old.own self.old.remote (sender_with cursor.now.indexes self.old.sending) (S.entries store.now) }
-        ensures after { self.new ≡ record self.old { sending = sending_of (after_read result (sender_with [] self.old.sending)); room = room_after result self.old.room } }
+        ensures read { result ≡ read_out self.old.own self.old.remote (replicator_with cursor.now.indexes self.old.sending) (S.entries store.now) }
+        ensures after { self.new ≡ record self.old { sending = sending_of (after_read result (replicator_with [] self.old.sending)); room = room_after result self.old.room } }
     {
         let read = self.next_read(store, cursor);
         match read {

@@ -5,13 +5,13 @@ use Rattle.std.specs.List.{count_by}
 use Rattle.std.proofs.lemmas.Bool.Decides.{nat_tests}
 use Rattle.std.proofs.lemmas.List.Sums.{sum_by-cons}
 use Rattle.geo_base.specs.declared.entry.Entry.{Entry}
-use Rattle.topic_upkeep.specs.declared.offload_fault.OffloadFault.{OffloadFault}
-use Rattle.topic_upkeep.specs.declared.offload_fault.OffloadFault.TheVariants as fault
-use Rattle.topic_upkeep.specs.declared.part.Part.{Part}
-use Rattle.topic_upkeep.specs.declared.part.Part.TheVariants as part
-use Rattle.topic_upkeep.specs.Calls.{Comes, fault_of, is_away}
-use Rattle.topic_upkeep.specs.Tiered.{Tiered, all_here}
-use Rattle.topic_upkeep.proofs.Cutting.{none_away, parts_many}
+use Rattle.tiered_storage.specs.declared.offload_fault.OffloadFault.{OffloadFault}
+use Rattle.tiered_storage.specs.declared.offload_fault.OffloadFault.TheVariants as fault
+use Rattle.tiered_storage.specs.declared.part.Part.{Part}
+use Rattle.tiered_storage.specs.declared.part.Part.TheVariants as part
+use Rattle.tiered_storage.specs.Calls.{Comes, fault_of, is_away}
+use Rattle.tiered_storage.specs.Tiered.{Tiered, all_here}
+use Rattle.tiered_storage.proofs.Cutting.{none_away, parts_many}
 
 -- ---- one ledger
 

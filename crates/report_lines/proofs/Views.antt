@@ -4,18 +4,13 @@ use Rattle.std.specs.Prelude.{Option, Some, None, min, slice_get}
 use Rattle.std.proofs.Math.ListN.{drop_of_length-le}
 use Rattle.std.proofs.lemmas.List.{append-nil}
 use Rattle.std.proofs.lemmas.Option.{slice_get_within}
-use Rattle.topic_upkeep.specs.View.{IsLeast, is_entry_shown, is_shown}
+use Rattle.topic_compaction.specs.View.{IsLeast, is_entry_shown, is_shown}
 use Rattle.geo_base.specs.declared.entry.Entry.{Entry}
 use Rattle.geo_base.specs.Report.{entry_line, with_line_feeds}
 use Rattle.geo_base.specs.Topic.{position_at}
 use Rattle.report_lines.proofs.Added.{drop_here, line_added}
 use Rattle.report_lines.specs.Views.{if_shown, shown_lines}
-
--- nothing stands where there is no entry, nor behind
-none_there : {X : Type 0} (xs : List X) (i : ℕ) → slice_get xs i ≡ None → length xs ≤ i
-none_there [] i none = omega arith
-none_there (x ∷ xs) zero none = absurd (cc none)
-none_there (x ∷ xs) (suc i) none = let h = none_there xs i none in omega (arith, h)
+use Rattle.geo_base.proofs.Lists.{get_none_past}
 
 -- of an index of a view the entry is there
 shown_there : (h i : ℕ) (all : List Entry) → is_shown h all i ≡ true → (e : Entry) × (slice_get all i ≡ Some e)
@@ -39,7 +34,7 @@ module _ (names : List (List ℕ)) (ledgers : List ℕ) (h : ℕ) (all : List En
           ap (shown_lines names ledgers h all i) (drop_here all i e at)
           ∙ ap (λ (t : Bool). if_shown t (entry_line names (position_at ledgers i) e) (lines_from (i + 1))) none
       by None at =
-          let past = none_there all i at in
+          let past = get_none_past all i at in
           ap (shown_lines names ledgers h all i) (drop_of_length-le all past)
           ∙ sym (ap (shown_lines names ledgers h all (i + 1)) (drop_of_length-le all (omega (arith, past))))
 

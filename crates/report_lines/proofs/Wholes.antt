@@ -13,7 +13,7 @@ use Rattle.geo_base.specs.Report.{entry_line, printed, shown_cluster_position, s
 use Rattle.report_lines.specs.Entries.{entry_words}
 use Rattle.report_lines.specs.Spaced.{spaced}
 
--- words, the first of which stands and each other one behind a space
+-- words, the first of which stands and each other one after a space
 pub words_spaced : (w : List ℕ) (ws : List (List ℕ)) → words (w ∷ ws) ≡ w ++ spaced ws
 words_spaced w [] = sym (append-nil w)
 words_spaced w (v ∷ ws) = ap (λ (t : List ℕ). w ++ (32 ∷ t)) (words_spaced v ws)
@@ -48,7 +48,7 @@ words_are names p e =
     rw (words_more to what (content_some names e e.content))
     (regrouped (shown_position p) (slice_index_or names e.ident.origin []) (printed e.ident.producer) (decimal e.ident.seq) to (words what) (32 ∷ []))
 
--- seven parts behind what stands there
+-- seven parts after what stands there
 joined : (old a b c d e f g : List ℕ) → ((((((old ++ a) ++ b) ++ c) ++ d) ++ e) ++ f) ++ g ≡ old ++ (a ++ (b ++ (c ++ (d ++ (e ++ (f ++ g))))))
 joined old a b c d e f g = simp append_assoc
 

@@ -1,6 +1,6 @@
 -- The compacted view of a topic, line by line (own): the horizon, and of the entries those of the view.
 use Rattle.std.specs.Prelude.{ℕ, ◌+◌, min, Bool, true, false, List, [], ◌∷◌, length, codes, decimal}
-use Rattle.topic_upkeep.specs.View.{is_shown}
+use Rattle.topic_compaction.specs.View.{is_shown}
 use Rattle.geo_base.specs.declared.entry.Entry.{Entry}
 use Rattle.geo_base.specs.Report.{entry_line, words}
 use Rattle.geo_base.specs.Topic.{position_at}

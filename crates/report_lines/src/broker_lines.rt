@@ -1,43 +1,43 @@
 //! The lines of a broker.
 ghost use Rattle.std.specs.Prelude.{◌≡◌, ◌<◌, ◌==◌, ◌++◌, ◌∷◌, [], if◌then◌else◌, length, map, OnOk, OnErr, take};
-ghost use Rattle.geo_base.specs.Broker.{sender_at};
+ghost use Rattle.geo_base.specs.Broker.{replicator_at};
 ghost use Rattle.geo_base.specs.Cursor.{mark};
-ghost use Rattle.geo_base.specs.Report.{broker_lines, sender_line, sender_lines, sub_line, with_line_feeds};
+ghost use Rattle.geo_base.specs.Report.{broker_lines, replicator_line, replicator_lines, sub_line, with_line_feeds};
 ghost use Rattle.broker_subs.specs.Table.{sub_at};
 
-use crate::{SubShown, add, add_entries, sender_line, sub_line};
+use crate::{SubShown, add, add_entries, replicator_line, sub_line};
 use broker::Broker;
 use broker_subs::Sub;
 use geo_base::{Blob, Memory};
 use std::alloc::Global;
 
-/// Appends the lines of a broker: its topic's entries, its senders, and its subscriptions. It has a sender for each cluster, the
+/// Appends the lines of a broker: its topic's entries, its replicators, and its subscriptions. It has a replicator for each cluster, the
 /// own one unused.
 pub fn add_broker(alloc: Global, lines: &mut Blob, broker: &Broker) -> Result<(), Memory>
-    requires { length broker.now.broker.senders ≡ length broker.now.site.clusters }
+    requires { length broker.now.broker.replicators ≡ length broker.now.site.clusters }
     ensures ok { OnOk result (lines.new ≡ lines.old ++ with_line_feeds (broker_lines broker.now.site.clusters broker.now.site.own broker.now.broker)) }
     ensures err { OnErr result (take (length lines.old) lines.new ≡ lines.old) }
 {
     add_entries(lines, broker.site().clusters(), broker.store())?;
-    add_senders(alloc, lines, broker)?;
+    add_replicators(alloc, lines, broker)?;
     add_subs(alloc, lines, broker)
 }
 
-/// The senders to the other clusters.
-fn add_senders(alloc: Global, lines: &mut Blob, broker: &Broker) -> Result<(), Memory>
-    requires { length broker.now.broker.senders ≡ length broker.now.site.clusters }
-    ensures ok { OnOk result (lines.new ≡ lines.old ++ with_line_feeds (sender_lines broker.now.site.own 0 broker.now.site.clusters broker.now.broker.senders)) }
+/// The replicators to the other clusters.
+fn add_replicators(alloc: Global, lines: &mut Blob, broker: &Broker) -> Result<(), Memory>
+    requires { length broker.now.broker.replicators ≡ length broker.now.site.clusters }
+    ensures ok { OnOk result (lines.new ≡ lines.old ++ with_line_feeds (replicator_lines broker.now.site.own 0 broker.now.site.clusters broker.now.broker.replicators)) }
     ensures err { OnErr result (take (length lines.old) lines.new ≡ lines.old) }
 {
     let clusters = broker.site().clusters();
     for (number, cluster) in clusters.iter().enumerate() {
-        add_sender(alloc, lines, broker, number as u32, cluster.as_str())?;
+        add_replicator(alloc, lines, broker, number as u32, cluster.as_str())?;
     }
     Ok(())
 }
 
-/// The sender to a cluster, unless that is the own one.
-fn add_sender(
+/// The replicator to a cluster, unless that is the own one.
+fn add_replicator(
     alloc: Global,
     lines: &mut Blob,
     broker: &Broker,
@@ -45,16 +45,16 @@ fn add_sender(
     name: &str,
 ) -> Result<(), Memory>
     requires { remote < length broker.now.site.clusters }
-    ensures ok { OnOk result (lines.new ≡ lines.old ++ with_line_feeds (if broker.now.site.own == remote then [] else sender_line name.now (sender_at broker.now.broker remote) ∷ [])) }
+    ensures ok { OnOk result (lines.new ≡ lines.old ++ with_line_feeds (if broker.now.site.own == remote then [] else replicator_line name.now (replicator_at broker.now.broker remote) ∷ [])) }
     ensures err { OnErr result (take (length lines.old) lines.new ≡ lines.old) }
 {
     if broker.cluster() == remote {
         return Ok(());
     }
-    let row = broker.sender(remote);
-    let sender = row.sender();
-    let mark = broker.sender_mark(remote);
-    let line = sender_line(alloc, name, sender.session(), sender.state(), mark)?;
+    let row = broker.replicator(remote);
+    let replicator = row.replicator();
+    let mark = broker.replicator_mark(remote);
+    let line = replicator_line(alloc, name, replicator.session(), replicator.state(), mark)?;
     add(lines, line)
 }
 

@@ -1,4 +1,4 @@
-//! Lines behind lines.
+//! Lines after lines.
 //!
 //! Where memory ends in the midst, what stood before stands, with a part of what was to be appended or none: a whole report is made
 //! apart from where it goes.

@@ -3,7 +3,7 @@ ghost use Rattle.std.specs.Prelude.{◌≡◌, ◌++◌, ◌∷◌, [], length, 
 ghost use Rattle.geo_base.specs.Report.{shown_kind, shown_replicated, shown_seeks, shown_state, words};
 
 use crate::words::{add_number, shown_done, shown_kind, shown_replicated, shown_state};
-use geo_base::{Blob, Memory, SenderState, SubKind};
+use geo_base::{Blob, Memory, ReplicatorState, SubKind};
 use std::alloc::Global;
 
 /// What a subscription's line shows of it. `mark` is its mark-delete, `backlog` counts messages, `seeks` how often it was sought.
@@ -52,12 +52,12 @@ pub fn add_place_line(lines: &mut Blob, topic: &str, cluster: &str) -> Result<()
     lines.append(b"\n")
 }
 
-/// Appends the line of the sender to a cluster.
-pub fn add_sender_line(
+/// Appends the line of the replicator to a cluster.
+pub fn add_replicator_line(
     lines: &mut Blob,
     name: &str,
     session: u64,
-    state: SenderState,
+    state: ReplicatorState,
     mark: u64,
 ) -> Result<(), Memory>
     ensures ok { OnOk result (lines.new ≡ lines.old ++ (words (codes "sender" ∷ name.now ∷ codes "session" ∷ decimal session ∷ shown_state state ∷ codes "mark" ∷ decimal mark ∷ []) ++ 10 ∷ [])) }
@@ -70,7 +70,7 @@ pub fn add_sender_line(
     lines.append(b"\n")
 }
 
-/// Appends a word behind a label.
+/// Appends a word after a label.
 fn add_word(lines: &mut Blob, label: &[u8], word: &[u8]) -> Result<(), Memory>
     ensures ok { OnOk result (lines.new ≡ lines.old ++ (label.now ++ word.now)) }
     ensures err { OnErr result (take (length lines.old) lines.new ≡ lines.old) }
@@ -79,7 +79,7 @@ fn add_word(lines: &mut Blob, label: &[u8], word: &[u8]) -> Result<(), Memory>
     lines.append(word)
 }
 
-/// Appends a number behind a label.
+/// Appends a number after a label.
 fn add_counted(lines: &mut Blob, label: &[u8], number: u64) -> Result<(), Memory>
     ensures ok { OnOk result (lines.new ≡ lines.old ++ (label.now ++ decimal number)) }
     ensures err { OnErr result (take (length lines.old) lines.new ≡ lines.old) }
@@ -190,12 +190,12 @@ pub fn place_line(alloc: Global, topic: &str, cluster: &str) -> Result<String, M
     Ok(format!(in alloc; "topic {topic} at {cluster}\n")?)
 }
 
-/// The sender to a cluster.
-pub fn sender_line(
+/// The replicator to a cluster.
+pub fn replicator_line(
     alloc: Global,
     name: &str,
     session: u64,
-    state: SenderState,
+    state: ReplicatorState,
     mark: u64,
 ) -> Result<String, Memory>
     ensures { IfOk result (λ line. string_bytes line ≡ words (codes "sender" ∷ name.now ∷ codes "session" ∷ decimal session ∷ shown_state state ∷ codes "mark" ∷ decimal mark ∷ []) ++ 10 ∷ []) }

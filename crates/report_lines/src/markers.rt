@@ -1,11 +1,11 @@
 //! The words of a marker (PIP-33), appended to what stands before them.
 ghost use Rattle.std.specs.Prelude.{◌≡◌, ◌++◌, [], ◌∷◌, codes, map, OnOk, OnErr, take, length};
 ghost use Rattle.geo_base.specs.Report.{printed, shown_cluster_position, shown_marker, shown_position, words};
-ghost use Rattle.geo_base.specs.Sizes.{place_name};
+ghost use Rattle.geo_base.specs.Sizes.{cluster_ref_name};
 ghost use Rattle.report_lines.specs.Spaced.{spaced};
 
 use crate::words::{add_position, add_printed, cluster_name};
-use geo_base::{Blob, ClusterName, ClusterPosition, Marker, Memory, Place, Position};
+use geo_base::{Blob, ClusterName, ClusterPosition, ClusterRef, Marker, Memory, Position};
 
 /// What a marker says.
 #[tactic(auto, using(crate::proofs::Wholes::snapshot_whole, crate::proofs::Wholes::update_whole))]
@@ -35,9 +35,9 @@ fn add_request(
     lines: &mut Blob,
     clusters: &[ClusterName],
     id: &[u8],
-    source: &Place,
+    source: &ClusterRef,
 ) -> Result<(), Memory>
-    ensures ok { OnOk result (lines.new ≡ lines.old ++ words (codes "request" ∷ printed id.now ∷ printed (place_name clusters.now source.now) ∷ [])) }
+    ensures ok { OnOk result (lines.new ≡ lines.old ++ words (codes "request" ∷ printed id.now ∷ printed (cluster_ref_name clusters.now source.now) ∷ [])) }
     ensures err { OnErr result (take (length lines.old) lines.new ≡ lines.old) }
 {
     lines.append(b"request ")?;
@@ -81,7 +81,7 @@ fn add_update(lines: &mut Blob, sub: &[u8]) -> Result<(), Memory>
     add_printed(lines, sub)
 }
 
-/// The remote positions, each behind a space.
+/// The remote positions, each after a space.
 fn add_positions(
     lines: &mut Blob,
     clusters: &[ClusterName],
@@ -112,12 +112,15 @@ fn add_cluster_position(
 }
 
 /// The name of a cluster that a marker names.
-fn add_place(lines: &mut Blob, clusters: &[ClusterName], place: &Place) -> Result<(), Memory>
-    ensures ok { OnOk result (lines.new ≡ lines.old ++ printed (place_name clusters.now place.now)) }
+fn add_place(lines: &mut Blob, clusters: &[ClusterName], place: &ClusterRef) -> Result<(), Memory>
+    ensures ok { OnOk result (lines.new ≡ lines.old ++ printed (cluster_ref_name clusters.now place.now)) }
     ensures err { OnErr result (take (length lines.old) lines.new ≡ lines.old) }
 {
     match place {
-        Place::Known(cluster) => add_printed(lines, cluster_name(clusters, *cluster).as_bytes()),
-        Place::Stranger(name) => add_printed(lines, name.as_bytes()),
+        ClusterRef::Known(cluster) => add_printed(
+            lines,
+            cluster_name(clusters, *cluster).as_bytes(),
+        ),
+        ClusterRef::Stranger(name) => add_printed(lines, name.as_bytes()),
     }
 }

@@ -8,18 +8,18 @@ ghost use Rattle.std.specs.List.{sum};
 ghost use Rattle.geo_base.specs.declared.entry.Entry.{Entry};
 ghost use Rattle.geo_base.specs.Report.{entry_line, entry_lines, with_line_feeds};
 ghost use Rattle.geo_base.specs.Topic.{position_at};
-ghost use Rattle.topic_upkeep.specs.Readable.{AreTellable};
+ghost use Rattle.tiered_storage.specs.Readable.{AreTellable};
 ghost use Rattle.report_lines.specs.Tiers.{moved_ledgers, moved_line};
-ghost use Rattle.topic_upkeep.specs.Kept.{kept_in};
-ghost use Rattle.topic_upkeep.specs.Calls.{offloaded};
-ghost use Rattle.topic_upkeep.specs.Tiered.{Holds};
-ghost use Rattle.topic_upkeep.specs.declared.part.Part.TheVariants as part;
+ghost use Rattle.tiered_storage.specs.Kept.{kept_in};
+ghost use Rattle.tiered_storage.specs.Calls.{offloaded};
+ghost use Rattle.tiered_storage.specs.Tiered.{Holds};
+ghost use Rattle.tiered_storage.specs.declared.part.Part.TheVariants as part;
 
 use crate::add_entry_line;
 use geo_base::limits::CLUSTERS;
 use geo_base::{Blob, ClusterName, EntryStore, Memory};
 use std::alloc::Global;
-use topic_upkeep::{MemTier, OffloadFault, Tier, TieredLedger};
+use tiered_storage::{MemTier, OffloadFault, Tier, TieredLedger};
 
 /// A topic at a cluster, of which closed ledgers may stand in a tier in memory of its own.
 pub type TieredTopic = TieredLedger<MemTier>;

@@ -4,7 +4,7 @@
 //! A view is what a reader gets of a compacted topic: of each key the last message (Pulsar manual, topic compaction).
 
 ghost use Rattle.std.specs.Prelude.{◌≡◌, ◌<◌, ◌≤◌, ◌^◌, ◌++◌, ◌∷◌, [], length, string_bytes, IfOk, OnOk, OnErr, take};
-ghost use Rattle.topic_upkeep.specs.Last.{IsCompacted};
+ghost use Rattle.topic_compaction.specs.Last.{IsCompacted};
 ghost use Rattle.geo_base.specs.Report.{with_line_feeds};
 ghost use Rattle.report_lines.specs.Views.{horizon_line, shown_lines, view_messages};
 
@@ -12,7 +12,7 @@ use crate::add_entry;
 use geo_base::limits::CLUSTERS;
 use geo_base::{Blob, ClusterName, EntryStore, Memory};
 use std::alloc::Global;
-use topic_upkeep::{CompactFault, Compacted};
+use topic_compaction::{CompactFault, Compacted};
 
 /// A topic at a cluster, each by its name, and the horizon: the index below which its entries are compacted. An `Err` is want of memory.
 pub fn horizon_line(

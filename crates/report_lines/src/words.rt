@@ -8,7 +8,8 @@ ghost use Rattle.report_lines.specs.Printed.{is_shown};
 use crate::markers::add_marker;
 use geo_base::limits::CLUSTERS;
 use geo_base::{
-    Blob, ClusterName, Content, Entry, Ident, Memory, Position, SenderState, SubKind, Targets, Text,
+    Blob, ClusterName, Content, Entry, Ident, Memory, Position, ReplicatorState, SubKind, Targets,
+    Text,
 };
 use itoa::Buffer;
 use std::alloc::Global;
@@ -149,7 +150,7 @@ fn add_names(lines: &mut Blob, clusters: &[ClusterName], bits: u8) -> Result<(),
     Ok(())
 }
 
-/// One more name, behind a comma if it is not the first.
+/// One more name, after a comma if it is not the first.
 fn add_name(lines: &mut Blob, is_first: bool, name: &str) -> Result<(), Memory>
     ensures ok { OnOk result (lines.new ≡ lines.old ++ (if is_first then name.now else 44 ∷ name.now)) }
     ensures err { OnErr result (take (length lines.old) lines.new ≡ lines.old) }
@@ -167,14 +168,14 @@ pub(crate) fn shown_done(alloc: Global, done: usize, lines: usize) -> Result<Str
     Ok(format!(in alloc; "{done}/{lines}")?)
 }
 
-/// The state of a sender.
-pub(crate) fn shown_state(state: SenderState) -> &'static str
+/// The state of a replicator.
+pub(crate) fn shown_state(state: ReplicatorState) -> &'static str
     ensures { result.now ≡ shown_state state }
 {
     match state {
-        SenderState::Closed => "closed",
-        SenderState::Opening => "opening",
-        SenderState::Open => "open",
+        ReplicatorState::Closed => "closed",
+        ReplicatorState::Opening => "opening",
+        ReplicatorState::Open => "open",
     }
 }
 

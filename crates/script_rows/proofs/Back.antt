@@ -28,7 +28,7 @@ use Rattle.script_rows.specs.Columns.{cell_breaks, choice_of, counted, key_of, n
 use Rattle.script_rows.specs.Judging.{cells_break, values_of}
 use Rattle.script_rows.specs.Names.{Names, Seen, subs_of}
 use Rattle.script_rows.specs.Values.{name}
-use Rattle.script_rows.specs.Written.{AreDeclared, AreFit, AreNames, Fits, IsKeyValue, IsNameValue, IsPlaceValue, choice_word, choices, key_word, place_word, word_of, words_in}
+use Rattle.script_rows.specs.Written.{AreDeclared, AreFit, AreNames, Fits, IsKeyValue, IsNameValue, IsPositionOrEnd, choice_word, choices, key_word, place_word, word_of, words_in}
 
 -- an element of a list that passes as a whole
 pub passes : {X : Type 0} (p : X → Bool) (xs : List X) (i : ℕ) (d : X) → list_all p xs ≡ true → i < length xs → p (get_or xs i d) ≡ true
@@ -103,7 +103,7 @@ not_end : (w l e : Word) → slice_split (λ b. b == 58) w ≡ l ∷ e ∷ [] �
 not_end w l e two =
     false_from_ne_true _ (λ same. one_is_not_two (codes "end") l e (ap (λ (v : Word). slice_split (λ b. b == 58) v) (sym ((bytes_eq-Decides w (codes "end")).0 same)) ∙ two))
 
-place_back : (p : Option Position) → IsPlaceValue (value.Place p) → place_of (place_word p) ≡ Some p
+place_back : (p : Option Position) → IsPositionOrEnd (value.PositionOrEnd p) → place_of (place_word p) ≡ Some p
 place_back None fits = refl
 place_back (Some p) fits =
     let two = split_pair (decimal p.ledger) (decimal p.entry) (decimal_digits p.ledger fits.0) (decimal_digits p.entry fits.1) in
@@ -158,7 +158,7 @@ value_back n s (column.Count least most) (value.Item i) d t fits = counted_back 
 value_back n s column.Lost (value.Item i) d t fits = counted_back 0 1000 i fits.0 fits.1 (omega arith)
 value_back n s column.Twice (value.Item i) d t fits = counted_back 0 (1000 - s.lost) i fits.0 fits.1 (omega arith)
 value_back n s column.Seq (value.Seq i) d t fits = rw (seq_back i fits) refl
-value_back n s column.Place (value.Place p) d t fits = rw (place_back p fits) refl
+value_back n s column.PositionOrEnd (value.PositionOrEnd p) d t fits = rw (place_back p fits) refl
 value_back n s (column.Menu m) (value.Item i) d t fits = chosen_back n s m i fits.0
 value_back n s column.Targets v d t fits = cc
 value_back n s column.Home v d t fits = absurd fits.0
@@ -206,7 +206,7 @@ long_ok n s (column.Count least most) v d t fits = refl
 long_ok n s column.Lost v d t fits = refl
 long_ok n s column.Twice v d t fits = refl
 long_ok n s column.Seq v d t fits = refl
-long_ok n s column.Place v d t fits = refl
+long_ok n s column.PositionOrEnd v d t fits = refl
 long_ok n s (column.Menu m) v d t fits = refl
 long_ok n s column.Targets v d t fits = cc
 long_ok n s column.Other v d t fits = absurd fits.0

@@ -27,7 +27,7 @@ use Rattle.script_rows.specs.Names.{Names, Seen, subs_of}
 use Rattle.script_rows.specs.Rows.{is_later}
 use Rattle.script_rows.specs.Values.{item, name}
 use Rattle.script_rows.specs.Words.{◌>>=◌}
-use Rattle.script_rows.specs.Written.{AreFit, Fits, IsBelow, IsKeyValue, IsNameValue, IsPlaceValue, IsUnbroken, IsWithin, choice_word, choices, word_of}
+use Rattle.script_rows.specs.Written.{AreFit, Fits, IsBelow, IsKeyValue, IsNameValue, IsPositionOrEnd, IsUnbroken, IsWithin, choice_word, choices, word_of}
 use Rattle.script_rows.proofs.Choices.{choice_read}
 use Rattle.script_rows.proofs.Chosen.{chosen, number_small, some_part}
 use Rattle.script_rows.proofs.Places.{place-in}
@@ -65,13 +65,13 @@ pair_small [] p is = absurd (none-some p is)
 pair_small (l ∷ []) p is = absurd (none-some p is)
 pair_small (l ∷ e ∷ x ∷ more) p is = absurd (none-some p is)
 
-place_small : (w : Word) (q : Option Position) → place_of w ≡ Some q → IsPlaceValue (value.Place q)
+place_small : (w : Word) (q : Option Position) → place_of w ≡ Some q → IsPositionOrEnd (value.PositionOrEnd q)
 place_small w q e =
     elim (chosen (bytes_eq w (codes "end")) (Some None) (pair_of (cut_by 58 w) >>= λ p. Some (Some p)) (Some q) e) [
-      | inl end ↦ subst (λ (o : Option Position). IsPlaceValue (value.Place o)) (same_Some None q end.1) tt
+      | inl end ↦ subst (λ (o : Option Position). IsPositionOrEnd (value.PositionOrEnd o)) (same_Some None q end.1) tt
       | inr other ↦
           let p = some_part (pair_of (cut_by 58 w)) (λ p. Some (Some p)) q other.1 in
-          subst (λ (o : Option Position). IsPlaceValue (value.Place o)) (same_Some (Some p.0) q p.2) (pair_small (cut_by 58 w) p.0 p.1)
+          subst (λ (o : Option Position). IsPositionOrEnd (value.PositionOrEnd o)) (same_Some (Some p.0) q p.2) (pair_small (cut_by 58 w) p.0 p.1)
     ]
 
 -- ---- new names, keys
@@ -169,9 +169,9 @@ value_fits n s column.Seq w v b e none =
     let i = some_part (number_of (2 ^ 63 - 1) w) (λ i. Some (value.Seq i)) v e in
     let small : i.0 < 2 ^ 63 = omega (arith, number_small (2 ^ 63 - 1) w i.0 i.1) in
     (subst (Fits n s column.Seq) (same_Some (value.Seq i.0) v i.2) small, refl)
-value_fits n s column.Place w v b e none =
-    let p = some_part (place_of w) (λ p. Some (value.Place p)) v e in
-    (subst (Fits n s column.Place) (same_Some (value.Place p.0) v p.2) (place_small w p.0 p.1), refl)
+value_fits n s column.PositionOrEnd w v b e none =
+    let p = some_part (place_of w) (λ p. Some (value.PositionOrEnd p)) v e in
+    (subst (Fits n s column.PositionOrEnd) (same_Some (value.PositionOrEnd p.0) v p.2) (place_small w p.0 p.1), refl)
 value_fits n s (column.Menu m) w v b e none =
     let i = some_part (choice_of m w) (λ i. Some (value.Item i)) v e in
     (menu_fits m w v i.0 i.1 (same_Some (value.Item i.0) v i.2) (none rule.Word), refl)

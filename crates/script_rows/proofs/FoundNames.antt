@@ -13,6 +13,7 @@ use Rattle.std.proofs.lemmas.Slice.Eq.{bytes_eq-Decides}
 use Rattle.indexmap.specs.IndexSet.{insert_key}
 use Rattle.script_rows.specs.NameBytes.{is_among, name_at, number_in, words}
 use Rattle.script_rows.specs.NameWords.{Word}
+use Rattle.geo_base.proofs.Bools.{cond_none}
 
 either_way : (a b : Word) → bytes_eq a b ≡ bytes_eq b a
 either_way a b =
@@ -24,10 +25,6 @@ either_way a b =
 counted : (b : Bool) (n : ℕ) → cond (not b) (1 + n) 0 ≡ cond b 0 (1 + n)
 counted true n = refl
 counted false n = refl
-
-test_failed : {A : Type 0} (b : Bool) (x : A) → cond b (Some x) None ≡ None → b ≡ false
-test_failed true x e = cc
-test_failed false x e = refl
 
 one_step : (w : Word) (x : Bor Word) (xs : List (Bor Word)) → number_in (words (x ∷ xs)) w ≡ cond (bytes_eq w x.now) 0 (1 + number_in (words xs) w)
 one_step w x xs = rw (either_way w x.now) (counted (bytes_eq x.now w) (number_in (words xs) w))
@@ -43,7 +40,7 @@ number_found w ks i e =
 pub number_missing : (w : Word) (ks : List (Bor Word)) → position (λ (k : Bor Word). bytes_eq w k.now) ks ≡ None → length ks ≡ number_in (words ks) w
 number_missing w ks e =
     elim (cases_lt (position_or_len (λ (k : Bor Word). bytes_eq w k.now) ks) (length ks)) [
-      | inl within ↦ absurd (omega (arith, ltb-false _ _ (test_failed (ltb (position_or_len (λ (k : Bor Word). bytes_eq w k.now) ks) (length ks)) (position_or_len (λ (k : Bor Word). bytes_eq w k.now) ks) e)))
+      | inl within ↦ absurd (omega (arith, ltb-false _ _ (cond_none (ltb (position_or_len (λ (k : Bor Word). bytes_eq w k.now) ks) (length ks)) (position_or_len (λ (k : Bor Word). bytes_eq w k.now) ks) e)))
       | inr past ↦ omega (arith, place_of w ks, prefix_len-le-length (λ (k : Bor Word). not (bytes_eq w k.now)) ks)
     ]
 

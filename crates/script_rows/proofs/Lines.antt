@@ -1,5 +1,5 @@
 -- A step that is written reads back, and a step that is read is known.
-use Rattle.std.proofs.Common.{◌≡◌, ℕ, nat_lt, Bool, true, false, cond, ◌&&◌, List, [], ◌∷◌, find, Option, Some, None, option_map, arith, refl, sym, ap, ◌∙◌, subst}
+use Rattle.std.proofs.Common.{◌≡◌, ℕ, nat_lt, Bool, true, false, ◌&&◌, List, [], ◌∷◌, find, Option, Some, None, option_map, arith, refl, sym, ap, ◌∙◌, subst}
 use Rattle.std.specs.Prelude.{⊤}
 use Rattle.std.proofs.lemmas.Bool.{or_from, or_parts}
 use Rattle.std.proofs.lemmas.Option.{none-some, same_Some}
@@ -38,6 +38,7 @@ use Rattle.script_rows.proofs.Heads.{HasKind, event_heads, halt_heads, has_kind,
 use Rattle.script_rows.proofs.Plain.{event_listless, step_cut}
 use Rattle.script_rows.proofs.Ranges.{event_in, few_writes, made_kind, row_bounded}
 use Rattle.script_rows.proofs.Writable.{event_fits}
+use Rattle.geo_base.proofs.Bools.{cond_else_none}
 
 -- ---- a step's values make the step
 fate_back : (f : Fate) → fate_numbered (fate_number f) ≡ f
@@ -129,14 +130,10 @@ abbrev pub AllFail : (Rule → Bool) → List Rule → Type 0
 AllFail p [] = ⊤
 AllFail p (r ∷ rs) = (p r ≡ false) × AllFail p rs
 
-none_found : {A : Type 0} (b : Bool) (x : A) (more : Option A) → cond b (Some x) more ≡ None → (b ≡ false) × (more ≡ None)
-none_found true x more e = cc
-none_found false x more e = (refl, e)
-
 pub all_fail : (p : Rule → Bool) (rs : List Rule) → find p rs ≡ None → AllFail p rs
 all_fail p [] e = tt
 all_fail p (r ∷ rs) e =
-    let parts = none_found (p r) r (find p rs) e in (parts.0, all_fail p rs parts.1)
+    let parts = cond_else_none (p r) r (find p rs) e in (parts.0, all_fail p rs parts.1)
 
 -- a rule that no cell breaks
 no_cell : (n : Names) (r : Rule) → is_form r ≡ false → ((s : Seen) (c : Column) (w : Word) → cell_breaks n s c w r ≡ false) → (s : Seen) (cs : List Column) (ws : List Word) → cells_break n r s cs ws ≡ false

@@ -28,11 +28,12 @@ use Rattle.script_rows.specs.Names.{Names, Seen, nothing_seen, subs_of}
 use Rattle.script_rows.specs.Rows.{event_columns, event_word}
 use Rattle.script_rows.specs.Values.{name}
 use Rattle.script_rows.specs.Words.{words_of}
-use Rattle.script_rows.specs.Written.{AreDeclared, AreFit, AreNames, Fits, IsKeyValue, IsNameValue, IsPlaceValue, choice_word, event_values, event_words, key_word, kind_of, place_word, spaced, step_line, step_words, word_of, words_in}
+use Rattle.script_rows.specs.Written.{AreDeclared, AreFit, AreNames, Fits, IsKeyValue, IsNameValue, IsPositionOrEnd, choice_word, event_values, event_words, key_word, kind_of, place_word, spaced, step_line, step_words, word_of, words_in}
 use Rattle.script_rows.specs.Known.{IsStep}
 use Rattle.script_rows.proofs.Spaced.{joined}
 use Rattle.script_rows.proofs.Writable.{event_fits}
 use Rattle.script_rows.proofs.Back.{is_name_at, is_targets, no_targets, passes}
+use Rattle.geo_base.proofs.Lists.{all_weaker}
 
 -- ---- words without a space
 -- what ASCII prints, but no space
@@ -75,11 +76,6 @@ first_cut (w ∷ ws) all some =
     let parts = and_parts (is_plain w) (are_plain ws) all in all_cut w ws parts.0 parts.1
 
 -- ---- what is written in a column
-weaker : (p q : ℕ → Bool) → ((b : ℕ) → p b ≡ true → q b ≡ true) → (xs : List ℕ) → list_all p xs ≡ true → list_all q xs ≡ true
-weaker p q each [] all = refl
-weaker p q each (x ∷ xs) all =
-    let parts = and_parts (p x) (list_all p xs) all in
-    and_from (q x) (list_all q xs) (each x parts.0) (weaker p q each xs parts.1)
 
 between : (b : ℕ) → 33 ≤ b → b ≤ 126 → is_visible b ≡ true
 between b least most = and_from (nat_lt 32 b) (nat_le b 126) (lt-ltb _ _ (omega arith)) (le-leb _ _ most)
@@ -110,10 +106,10 @@ name_plain b is =
 
 name_is_plain : (w : Word) → is_name w ≡ true → is_plain w ≡ true
 name_is_plain w is =
-    weaker name_byte is_visible name_plain w (and_parts (nat_lt 0 (length w) && nat_le (length w) 16) (list_all name_byte w) is).1
+    all_weaker name_byte is_visible name_plain w (and_parts (nat_lt 0 (length w) && nat_le (length w) 16) (list_all name_byte w) is).1
 
 number_plain : (n : ℕ) → n < 2 ^ 64 → is_plain (decimal n) ≡ true
-number_plain n fits = weaker is_digit is_visible digit_plain (decimal n) (decimal_digits n fits)
+number_plain n fits = all_weaker is_digit is_visible digit_plain (decimal n) (decimal_digits n fits)
 
 declared_plain : (names : List Word) (i : ℕ) → AreNames names → i < length names → is_plain (name_at names i) ≡ true
 declared_plain names i a within = name_is_plain (name_at names i) (is_name_at names i a within)
@@ -136,7 +132,7 @@ choice_plain menu.SubKind (suc zero) = refl
 choice_plain menu.SubKind (suc (suc zero)) = refl
 choice_plain menu.SubKind (suc (suc (suc i))) = refl
 
-place_plain : (p : Option Position) → IsPlaceValue (value.Place p) → is_plain (place_word p) ≡ true
+place_plain : (p : Option Position) → IsPositionOrEnd (value.PositionOrEnd p) → is_plain (place_word p) ≡ true
 place_plain None fits = refl
 place_plain (Some p) fits =
     rw (list_all-append is_visible (decimal p.ledger) (58 ∷ decimal p.entry)) (and_from _ _ (number_plain p.ledger fits.0) (number_plain p.entry fits.1))
@@ -168,7 +164,7 @@ cell_plain n s (column.Count least most) (value.Item i) d t fits = number_plain 
 cell_plain n s column.Lost (value.Item i) d t fits = number_plain i (omega (arith, fits.1))
 cell_plain n s column.Twice (value.Item i) d t fits = number_plain i (omega (arith, fits.1))
 cell_plain n s column.Seq (value.Seq i) d t fits = number_plain i (omega (arith, fits))
-cell_plain n s column.Place (value.Place p) d t fits = place_plain p fits
+cell_plain n s column.PositionOrEnd (value.PositionOrEnd p) d t fits = place_plain p fits
 cell_plain n s (column.Menu m) (value.Item i) d t fits = choice_plain m i
 cell_plain n s column.Targets v d t fits = cc
 cell_plain n s column.Text v d t fits = cc
@@ -252,10 +248,10 @@ visible_shown b is =
 
 joined_shown : (ws : List Word) → are_plain ws ≡ true → list_all is_shown (join_with_byte 32 ws) ≡ true
 joined_shown [] all = refl
-joined_shown (w ∷ []) all = weaker is_visible is_shown visible_shown w (and_parts (is_plain w) true all).0
+joined_shown (w ∷ []) all = all_weaker is_visible is_shown visible_shown w (and_parts (is_plain w) true all).0
 joined_shown (w ∷ x ∷ xs) all =
     let parts = and_parts (is_plain w) (are_plain (x ∷ xs)) all in
-    rw (list_all-append is_shown w (32 ∷ join_with_byte 32 (x ∷ xs))) (and_from _ _ (weaker is_visible is_shown visible_shown w parts.0) (joined_shown (x ∷ xs) parts.1))
+    rw (list_all-append is_shown w (32 ∷ join_with_byte 32 (x ∷ xs))) (and_from _ _ (all_weaker is_visible is_shown visible_shown w parts.0) (joined_shown (x ∷ xs) parts.1))
 
 -- each byte of a step's line is printable
 pub step_shown : (n : Names) (s : Step) → AreDeclared n → IsStep n s → list_all is_shown (step_line n s) ≡ true

@@ -21,7 +21,7 @@ use Rattle.script_rows.specs.Known.{IsEvent, IsLink, IsNode, is_fate_built}
 use Rattle.script_rows.specs.Names.{Names, Seen, subs_of}
 use Rattle.script_rows.specs.Rows.{act_columns, columns_of, event_columns, fated_link, is_later, line_columns}
 use Rattle.script_rows.specs.Values.{event_of, fate_numbered, first, item, item_at, place, place_at}
-use Rattle.script_rows.specs.Written.{AreDeclared, AreFit, IsPlaceValue, IsWithin, choice_word, fate_number, kind_of}
+use Rattle.script_rows.specs.Written.{AreDeclared, AreFit, IsPositionOrEnd, IsWithin, choice_word, fate_number, kind_of}
 use Rattle.script_rows.proofs.Back.{number_at}
 use Rattle.script_rows.proofs.Fits.{AreBounded}
 use Rattle.script_rows.proofs.RowValues.{item_below, item_same, value_at, value_is}
@@ -65,12 +65,12 @@ fated_in : (n : Names) (s : Seen) (vs : List Value) → AreFit n s fated_link vs
 fated_in n s vs f =
     (link_in n s vs (column.Menu menu.Fate ∷ []) f, built_fate (item_at vs 3) (item_below vs 3 3 f.2.2.2.1.0) (subst (λ (k : ℕ). is_later menu.Fate (choice_word menu.Fate k) ≡ false) (item_same vs 3) f.2.2.2.1.1))
 
-is_place : (v : Value) → IsPlaceValue v → IsPlaceValue (value.Place (place v))
-is_place (value.Place p) is = is
-is_place v is = absurd is
+means_cluster : (v : Value) → IsPositionOrEnd v → IsPositionOrEnd (value.PositionOrEnd (place v))
+means_cluster (value.PositionOrEnd p) is = is
+means_cluster v is = absurd is
 
-place_in : (vs : List Value) (i : ℕ) → IsPlaceValue (value_at vs i) → IsPlaceValue (value.Place (place_at vs i))
-place_in vs i is = subst (λ (v : Value). IsPlaceValue (value.Place (place v))) (value_is vs i) (is_place (value_at vs i) is)
+place_in : (vs : List Value) (i : ℕ) → IsPositionOrEnd (value_at vs i) → IsPositionOrEnd (value.PositionOrEnd (place_at vs i))
+place_in vs i is = subst (λ (v : Value). IsPositionOrEnd (value.PositionOrEnd (place v))) (value_is vs i) (means_cluster (value_at vs i) is)
 
 -- ---- one line a row
 pub event_in : (n : Names) (s : Seen) (k : EventKind) (vs : List Value) → AreDeclared n → AreFit n s (event_columns k) vs → IsEvent n (event_of k vs)
@@ -85,7 +85,7 @@ event_in n s kind.Take vs d f = fated_in n s vs f
 event_in n s kind.Receipt vs d f = fated_in n s vs f
 event_in n s kind.Snap vs d f = node_in n s vs [] f
 event_in n s kind.Offer vs d f = offered_in n s vs [] d f
-event_in n s kind.Seek vs d f = (offered_in n s vs (column.Place ∷ []) d f, place_in vs 3 f.2.2.2.1)
+event_in n s kind.Seek vs d f = (offered_in n s vs (column.PositionOrEnd ∷ []) d f, place_in vs 3 f.2.2.2.1)
 event_in n s kind.Restart vs d f = node_in n s vs [] f
 
 pub made_kind : (k : EventKind) (vs : List Value) → kind_of (event_of k vs) ≡ k

@@ -56,5 +56,5 @@ event_fits n s (event.Receipt t x y f) d is =
 event_fits n s (event.Snap t x) d is = (omega arith, is.0, (omega arith, is.1, refl))
 event_fits n s (event.Offer t x q) d is = sub_fits n s t x q [] [] d is.0 is.1 (λ z. refl)
 event_fits n s (event.Seek t x q p) d is =
-    sub_fits n s t x q (column.Place ∷ []) (value.Place p ∷ []) d is.0.0 is.0.1 (λ z. (omega arith, is.1, refl))
+    sub_fits n s t x q (column.PositionOrEnd ∷ []) (value.PositionOrEnd p ∷ []) d is.0.0 is.0.1 (λ z. (omega arith, is.1, refl))
 event_fits n s (event.Restart t x) d is = (omega arith, is.0, (omega arith, is.1, refl))

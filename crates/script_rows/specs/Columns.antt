@@ -115,9 +115,9 @@ value_of n s column.Twice w = counted 0 (1000 - s.lost) w
 value_of n s column.Seq w = do
   v ← number_of (2 ^ 63 - 1) w
   Some (value.Seq v)
-value_of n s column.Place w = do
+value_of n s column.PositionOrEnd w = do
   p ← place_of w
-  Some (value.Place p)
+  Some (value.PositionOrEnd p)
 value_of n s (column.Menu m) w = do
   i ← choice_of m w
   Some (value.Item i)
@@ -144,7 +144,7 @@ has_long_name (column.Count least most) w = false
 has_long_name column.Lost w = false
 has_long_name column.Twice w = false
 has_long_name column.Seq w = false
-has_long_name column.Place w = false
+has_long_name column.PositionOrEnd w = false
 has_long_name (column.Menu m) w = false
 has_long_name c w = is_long w
 

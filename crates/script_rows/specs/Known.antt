@@ -18,7 +18,7 @@ use Rattle.script_rows.specs.Names.{Names, nothing_seen, subs_of}
 use Rattle.script_rows.specs.Rows.{act_built, columns_of, event_built, halt_built, is_later, line_built, may_halt}
 use Rattle.script_rows.specs.Values.{step_of}
 use Rattle.script_rows.specs.Words.{words_of}
-use Rattle.script_rows.specs.Written.{IsPlaceValue, choice_word, fate_number, kind_of}
+use Rattle.script_rows.specs.Written.{IsPositionOrEnd, choice_word, fate_number, kind_of}
 
 -- the topic and the two ends of a link
 pub record IsLink (n : Names) (topic source target : ℕ) : Type 0 where
@@ -48,7 +48,7 @@ IsEvent n (event.Take t x y f) = IsLink n t x y × (is_fate_built f ≡ true)
 IsEvent n (event.Receipt t x y f) = IsLink n t x y × (is_fate_built f ≡ true)
 IsEvent n (event.Snap t x) = IsNode n t x
 IsEvent n (event.Offer t x s) = IsNode n t x × (s < length (subs_of n t))
-IsEvent n (event.Seek t x s p) = (IsNode n t x × (s < length (subs_of n t))) × IsPlaceValue (value.Place p)
+IsEvent n (event.Seek t x s p) = (IsNode n t x × (s < length (subs_of n t))) × IsPositionOrEnd (value.PositionOrEnd p)
 IsEvent n (event.Restart t x) = IsNode n t x
 
 -- a step that is read, with its numbers in range

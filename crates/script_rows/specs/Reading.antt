@@ -35,7 +35,7 @@ is_named (column.Count least most) = false
 is_named column.Lost = false
 is_named column.Twice = false
 is_named column.Seq = false
-is_named column.Place = false
+is_named column.PositionOrEnd = false
 is_named (column.Menu m) = false
 is_named c = true
 

@@ -65,7 +65,7 @@ event_columns event.Take = fated_link
 event_columns event.Receipt = fated_link
 event_columns event.Snap = node
 event_columns event.Offer = column.Topic ∷ column.Cluster ∷ column.Offered ∷ []
-event_columns event.Seek = column.Topic ∷ column.Cluster ∷ column.Offered ∷ column.Place ∷ []
+event_columns event.Seek = column.Topic ∷ column.Cluster ∷ column.Offered ∷ column.PositionOrEnd ∷ []
 event_columns event.Restart = node
 
 abbrev pub event_word : EventKind → Word

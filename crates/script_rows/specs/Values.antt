@@ -53,7 +53,7 @@ abbrev pub seq_at : List Value → ℕ → ℕ
 seq_at vs i = seq (slice_index_or vs i no_value)
 
 abbrev pub place : Value → Option Position
-place (value.Place p) = p
+place (value.PositionOrEnd p) = p
 place v = None
 
 abbrev pub place_at : List Value → ℕ → Option Position

@@ -89,7 +89,7 @@ word_of n s (column.Count least most) v = decimal (item v)
 word_of n s column.Lost v = decimal (item v)
 word_of n s column.Twice v = decimal (item v)
 word_of n s column.Seq v = decimal (seq v)
-word_of n s column.Place v = place_word (place v)
+word_of n s column.PositionOrEnd v = place_word (place v)
 word_of n s (column.Menu m) v = choice_word m (item v)
 
 abbrev pub words_in : Names → Seen → List Column → List Value → List Word
@@ -139,7 +139,7 @@ event_values (event.Take t x y f) = items (t ∷ x ∷ y ∷ fate_number f ∷ [
 event_values (event.Receipt t x y f) = items (t ∷ x ∷ y ∷ fate_number f ∷ [])
 event_values (event.Snap t x) = items (t ∷ x ∷ [])
 event_values (event.Offer t x s) = items (t ∷ x ∷ s ∷ [])
-event_values (event.Seek t x s p) = items (t ∷ x ∷ s ∷ []) ++ value.Place p ∷ []
+event_values (event.Seek t x s p) = items (t ∷ x ∷ s ∷ []) ++ value.PositionOrEnd p ∷ []
 event_values (event.Restart t x) = items (t ∷ x ∷ [])
 
 abbrev pub event_words : Names → Event → List Word
@@ -177,10 +177,10 @@ abbrev pub IsWithin : ℕ → ℕ → Value → Type 0
 IsWithin least most (value.Item i) = (least ≤ i) × (i ≤ most)
 IsWithin least most v = ⊥
 
-abbrev pub IsPlaceValue : Value → Type 0
-IsPlaceValue (value.Place None) = ⊤
-IsPlaceValue (value.Place (Some p)) = (p.ledger < 2 ^ 64) × (p.entry < 2 ^ 64)
-IsPlaceValue v = ⊥
+abbrev pub IsPositionOrEnd : Value → Type 0
+IsPositionOrEnd (value.PositionOrEnd None) = ⊤
+IsPositionOrEnd (value.PositionOrEnd (Some p)) = (p.ledger < 2 ^ 64) × (p.entry < 2 ^ 64)
+IsPositionOrEnd v = ⊥
 
 abbrev pub IsSeq : Value → Type 0
 IsSeq (value.Seq i) = i < 2 ^ 63
@@ -229,7 +229,7 @@ Fits n s (column.Count least most) v = IsWithin least most v × (most < 2 ^ 64)
 Fits n s column.Lost v = IsWithin 0 1000 v
 Fits n s column.Twice v = IsWithin 0 (1000 - s.lost) v
 Fits n s column.Seq v = IsSeq v
-Fits n s column.Place v = IsPlaceValue v
+Fits n s column.PositionOrEnd v = IsPositionOrEnd v
 Fits n s (column.Menu m) v = IsBelow (choices m) v × (is_later m (choice_word m (item v)) ≡ false)
 
 abbrev pub AreFit : Names → Seen → List Column → List Value → Type 0

@@ -39,7 +39,7 @@ impl Names<'_> {
             Column::Lost => formed(counted(0, THOUSAND, word)),
             Column::Twice => formed(counted(0, seen.kept(), word)),
             Column::Seq => formed(sequence_id(word)),
-            Column::Place => formed(place(word)),
+            Column::PositionOrEnd => formed(place(word)),
             Column::Menu(menu) => formed(chosen(menu, word)),
             _ => {
                 if !has_name_bytes(word) {
@@ -314,9 +314,9 @@ fn sequence_id(word: &[u8]) -> Option<Value<'_>>
 
 /// A position, or the end.
 fn place(word: &[u8]) -> Option<Value<'_>>
-    ensures { result ≡ option_map Value.Place (place_of word.now) }
+    ensures { result ≡ option_map Value.PositionOrEnd (place_of word.now) }
 {
-    Some(Value::Place(place_of(word)?))
+    Some(Value::PositionOrEnd(place_of(word)?))
 }
 
 /// A word of a choice.

@@ -65,7 +65,7 @@ pub enum Column {
     /// a sequence id: it fits a signed number of 64 bits
     Seq,
     /// `L:E` or `end`
-    Place,
+    PositionOrEnd,
     /// a word of a choice
     Menu(Menu),
 }

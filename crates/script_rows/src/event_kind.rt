@@ -74,7 +74,7 @@ const SEEK: &[Column] = &[
     Column::Topic,
     Column::Cluster,
     Column::Offered,
-    Column::Place,
+    Column::PositionOrEnd,
 ];
 
 impl EventKind {

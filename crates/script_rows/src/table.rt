@@ -90,7 +90,7 @@ impl<'a> NameTable<'a> {
         self.names.contains(word)
     }
 
-    /// One more name; unchanged where memory is wanting, or a number for it, which only the name behind 2^32 - 1 others has not.
+    /// One more name; unchanged where memory is wanting, or a number for it, which only the name after 2^32 - 1 others has not.
     #[tactic(auto, using(crate::proofs::FoundNames::pushed))]
     pub fn push(&mut self, name: &'a [u8]) -> Result<(), Memory>
         requires { is_among self.old name.now ≡ false }
@@ -105,7 +105,7 @@ impl<'a> NameTable<'a> {
     }
 }
 
-/// Whether the name behind so many others has a number, which with the count of all has 32 bits.
+/// Whether the name after so many others has a number, which with the count of all has 32 bits.
 fn has_number(before: usize) -> bool
     ensures few { result ≡ true → before + 1 < 2 ^ 32 }
     ensures many { result ≡ false → 2 ^ 32 ≤ before + 1 }

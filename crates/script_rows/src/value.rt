@@ -43,7 +43,7 @@ pub enum Value<'a> {
     /// a sequence id
     Seq(u64),
     /// a position, or the end
-    Place(Option<Position>),
+    PositionOrEnd(Option<Position>),
     /// the clusters that a list names
     Targets(Targets),
     /// a key

@@ -201,7 +201,7 @@ fn place_at(values: &[Value<'_>], at: usize) -> Option<Position>
     ensures { result ≡ place_at values.now at }
 {
     match values.get(at) {
-        Some(Value::Place(place)) => *place,
+        Some(Value::PositionOrEnd(place)) => *place,
         _ => None,
     }
 }

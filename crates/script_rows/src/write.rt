@@ -42,7 +42,7 @@ impl Value<'_> {
         ensures { result ≡ place self.now }
     {
         match self {
-            Value::Place(place) => *place,
+            Value::PositionOrEnd(place) => *place,
             _ => None,
         }
     }
@@ -176,7 +176,7 @@ impl<'a> Names<'a> {
                 u64::from(value.item()),
             ),
             Column::Seq => number_word(alloc, value.seq()),
-            Column::Place => place_word(alloc, value.place()),
+            Column::PositionOrEnd => place_word(alloc, value.place()),
             Column::Menu(menu) => Blob::from_slice(alloc, choice_word(menu, value.item())),
         }
     }
@@ -313,7 +313,7 @@ fn event_values(alloc: Global, event: &Event) -> Result<Sequence<Value<'static>>
             to,
         } => {
             let mut values = three(alloc, *topic, *cluster, *sub)?;
-            values.push(Value::Place(*to))?;
+            values.push(Value::PositionOrEnd(*to))?;
             Ok(values)
         }
     }

@@ -30,7 +30,7 @@ ended n p chance s begun some =
     let topics : (length s.topics == 0) ≡ false = ne_eqb (length s.topics) 0 (λ none. omega (arith, none, some)) in
     rw (begun, topics) refl
 
--- what stands behind the text is read as what is declared there meets it
+-- what stands after the text is read as what is declared there meets it
 pub record IsDeclaredBy (s : Script) : Type 0 where
   pub after : ℕ
   pub last : Progress

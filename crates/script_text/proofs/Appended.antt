@@ -1,4 +1,4 @@
--- Lines that stand behind a text.
+-- Lines that stand after a text.
 use Rattle.std.proofs.Common.{◌≡◌, ℕ, ◌+◌, ◌<◌, ◌==◌, Bool, true, false, not, cond, List, [], ◌∷◌, ◌++◌, length, map, find, Result, Ok, Err, arith, length-append, refl, sym, ap, ◌∙◌}
 use Rattle.std.specs.List.{onto_first, slice_split}
 use Rattle.std.proofs.lemmas.Bool.{not-false}
@@ -50,7 +50,7 @@ pub ended_ok : {A : Type 0} (n : ℕ) (r : Result A Rule) (b : A) → at_line n 
 ended_ok n (Ok a) b e = let same : a ≡ b = cc in ap Ok same
 ended_ok n (Err r) b e = cc
 
--- the lines of an accepted script, and what the lines behind them meet
+-- the lines of an accepted script, and what the lines after them meet
 pub record IsReached (n : ℕ) (s : SoFar) (ls : List TextLine) (t : Script) : Type 0 where
   pub state : SoFar
   pub goes : (more : List TextLine) → script_from n s (ls ++ more) ≡ script_from (n + length ls) state more

@@ -1,4 +1,4 @@
--- What a schedule says behind a script is what it says by itself.
+-- What a schedule says after a script is what it says by itself.
 use Rattle.std.proofs.Common.{◌≡◌, ℕ, ◌+◌, ◌≤◌, ◌==◌, nat_lt, Bool, true, false, not, ◌||◌, if◌then◌else◌, List, [], ◌∷◌, ◌++◌, length, find, Option, Some, None, Result, Ok, Err, IsOkAnd, option_map, ◌⊎◌, inl, inr, arith, append_assoc, refl, sym, ap, subst, ◌∙◌}
 use Rattle.std.proofs.lemmas.Bool.{and_from, cases_Bool, le-ltb}
 use Rattle.std.proofs.lemmas.List.{append-nil}
@@ -126,7 +126,7 @@ step_words p q n (heading.Headed k ws) is =
 pub lowest_step : (p q : Progress) (n : Names) (l : TextLine) → p.begun ≡ true → q.begun ≡ true → heads_step (said_by l) ≡ true → lowest p n l ≡ lowest q n l
 lowest_step p q n l begun begun' is = lowest_by_words p q n l begun begun' (step_words p q n (said_by l) is)
 
--- ---- the same steps, behind others
+-- ---- the same steps, after others
 abbrev pub after : List Step → ℕ → Steps → Steps
 after before first s = record { first = Some first; list = before ++ s.list }
 
@@ -151,7 +151,7 @@ scheduled_after before first k at p n steps l begun last =
           rw other (ap (λ (o : Option Rule). unless_broken o (with_step at (after before first steps) (step_in n (said_by l)))) (lowest_late p n l begun last) ∙ unless_after before first k at steps (step_in n (said_by l)) (lowest at_events n l))
     ]
 
--- ---- lines behind events
+-- ---- lines after events
 abbrev pub late : Declarations → Declarations
 late d = moved_on d (record d.progress { last = stage.Event })
 
@@ -174,7 +174,7 @@ follows off k d before first steps (l ∷ ls) begun some =
         let s : SoFar = record { declared = late d; steps = after before first steps } in
         step_breaks (off + k) s l ls r (inl refl) (scheduled_after before first k (off + k) (late d).progress (names_of d.setup) steps l begun refl ∙ ap (also before first) e)
 
--- ---- lines behind a step
+-- ---- lines after a step
 chosen_some : (b : Bool) (o : Option Step) (e : Step) → (if b then o else None) ≡ Some e → b ≡ true
 chosen_some true o e is = refl
 chosen_some false o e is = cc

@@ -1,4 +1,4 @@
--- A line of declarations that is taken in declares more, so that what stands behind the declarations of an accepted script is
+-- A line of declarations that is taken in declares more, so that what stands after the declarations of an accepted script is
 -- its schedule.
 use Rattle.std.proofs.Common.{◌≡◌, ℕ, ◌+◌, ◌<◌, ◌≤◌, true, false, List, [], ◌∷◌, ◌++◌, length, find, is_none, Option, Some, None, Ok, inl, inr, arith, refl, sym, ap, ◌∙◌, subst}
 use Rattle.std.specs.List.{sum_by}
@@ -112,7 +112,7 @@ script_keeps at s (l ∷ ls) t e =
     let first = at_line_ok at (judged at s l) (λ s'. script_from (at + 1) s' ls) t e in
     omega (arith, judged_keeps at s first.0 l first.1, script_keeps (at + 1) first.0 ls t first.2)
 
--- ---- a line that declares, behind a topic
+-- ---- a line that declares, after a topic
 some_is : {A : Type 0} (o : Option A) → is_none o ≡ false → (a : A) × (o ≡ Some a)
 some_is None e = cc
 some_is (Some a) e = (a, refl)
@@ -169,7 +169,7 @@ declares at s (heading.Headed k ws) late is none =
     let same : (added at s (heading.Headed k ws)).declared.setup ≡ setup_after s.declared.setup k values.0 = rw (is, values.1) refl in
     ap declared_by same ∙ row_more s k ws values.0 late is none values.1
 
--- ---- behind a topic, the lines of an accepted script that declares nothing more are a schedule
+-- ---- after a topic, the lines of an accepted script that declares nothing more are a schedule
 parts : (at k : ℕ) (s : SoFar) (steps : Steps) (ls : List TextLine) (t : Script) → s.declared.progress.begun ≡ true → 3 ≤ rank s.declared.progress.last → s.steps.list ≡ steps.list → t.setup ≡ s.declared.setup → script_from at s ls ≡ Ok t → schedule_from k (names_of s.declared.setup) steps ls ≡ Ok t.steps
 parts at k s steps [] t begun late same own e =
     ap Ok (sym same ∙ ap (λ (x : Script). x.steps) (complete s t (ended_ok at (completed s) t e)).same)

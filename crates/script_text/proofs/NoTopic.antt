@@ -1,17 +1,12 @@
 -- A topic that is not declared has no subscription.
-use Rattle.std.proofs.Common.{◌≡◌, ℕ, zero, suc, ◌<◌, ◌≤◌, ◌==◌, true, ◌&&◌, nat_lt, List, [], ◌∷◌, length, fold, None, arith, refl, ap, ◌∙◌}
-use Rattle.std.specs.List.{list_all, slice_get}
+use Rattle.std.proofs.Common.{◌≡◌, ℕ, ◌<◌, ◌≤◌, ◌==◌, true, ◌&&◌, nat_lt, List, [], ◌∷◌, length, fold, arith, refl, ap, ◌∙◌}
+use Rattle.std.specs.List.{list_all}
 use Rattle.std.proofs.lemmas.Bool.{and_parts, cond_both, eqb-true, ltb-true}
 use Rattle.geo_base.specs.Name.{is_name}
 use Rattle.geo_base.specs.Scripted.{is_declared, is_line, stays_or_is_silent}
 use Rattle.geo_base.specs.Setup.{Declared, Setup, sub_names, with_client, with_line}
 use Rattle.script_rows.specs.NameWords.{Word}
-
--- a place where nothing stands is past the end
-pub past_none : {X : Type 0} (xs : List X) (i : ℕ) → slice_get xs i ≡ None → length xs ≤ i
-past_none [] i none = omega arith
-past_none (x ∷ xs) zero none = cc
-past_none (x ∷ xs) (suc i) none = omega (arith, past_none xs i none)
+pub use Rattle.geo_base.proofs.Lists.{get_none_past as past_none}
 
 topic_declared : (s : Setup) (d : Declared) → is_declared s d ≡ true → d.topic < length s.topics
 topic_declared s d k =

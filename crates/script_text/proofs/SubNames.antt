@@ -18,11 +18,10 @@ use Rattle.geo_base.specs.Setup.{Declared, Setup, declared_at, nobody, sub_names
 use Rattle.script_rows.specs.NameBytes.{is_among}
 use Rattle.script_text.specs.Subs.{is_named_by, is_sub_of, same_name, sub_in}
 use Rattle.script_rows.specs.NameWords.{Word}
+use Rattle.geo_base.proofs.Bools.{or_assoc}
+pub use Rattle.geo_base.proofs.Bools.{and_with_false as cases_named}
 
 -- ---- tests
-or_assoc : (a b c : Bool) → ((a || b) || c) ≡ (a || (b || c))
-or_assoc true b c = refl
-or_assoc false b c = refl
 
 or_swap : (a b c : Bool) → ((a || b) || c) ≡ ((a || c) || b)
 or_swap true b c = refl
@@ -124,10 +123,6 @@ any_set p (x ∷ xs) zero y d b within is =
     ap (λ (c : Bool). c || list_any p xs) is ∙ or_swap (p x) b (list_any p xs)
 any_set p (x ∷ xs) (suc i) y d b within is =
     ap (λ (c : Bool). p x || c) (any_set p xs i y d b (omega arith) is) ∙ sym (or_assoc (p x) (list_any p xs) b)
-
-pub cases_named : (t : Bool) → (t && false) ≡ false
-cases_named true = refl
-cases_named false = refl
 
 -- a client without lines names nothing
 pub subs_pushed : (s : Setup) (d : Declared) (t : ℕ) (q : Word) → d.lines ≡ [] → list_any (is_named_by t q) (s.clients ++ d ∷ []) ≡ list_any (is_named_by t q) s.clients

@@ -13,7 +13,7 @@ use Rattle.script_rows.specs.declared.line_kind.LineKind.TheVariants as line_kin
 use Rattle.script_rows.specs.declared.value.Value.TheVariants as value
 use Rattle.script_rows.specs.Known.{is_fate_built}
 use Rattle.script_rows.specs.Rows.{event_built, halt_built, line_built, may_halt}
-use Rattle.script_rows.specs.Written.{IsPlaceValue, kind_of}
+use Rattle.script_rows.specs.Written.{IsPositionOrEnd, kind_of}
 use Rattle.script_text.specs.declared.chance.Chance.{Chance}
 use Rattle.script_text.specs.Lines.{is_printable}
 use Rattle.script_text.specs.Script.{Script}
@@ -43,7 +43,7 @@ IsEvent s (event.Receipt topic source target f) = IsLink s topic source target �
 IsEvent s (event.Snap topic cluster) = IsNode s topic cluster
 IsEvent s (event.Offer topic cluster sub) = IsNode s topic cluster × (sub < length (sub_names s topic))
 IsEvent s (event.Seek topic cluster sub to) =
-    (IsNode s topic cluster × (sub < length (sub_names s topic))) × IsPlaceValue (value.Place to)
+    (IsNode s topic cluster × (sub < length (sub_names s topic))) × IsPositionOrEnd (value.PositionOrEnd to)
 IsEvent s (event.Restart topic cluster) = IsNode s topic cluster
 
 -- a step with its numbers in range, of a kind that is read; what is halted is an event of a broker that it does by its own steps

@@ -1,4 +1,4 @@
--- A schedule that stands by itself, behind the declarations of a script.
+-- A schedule that stands by itself, after the declarations of a script.
 use Rattle.std.specs.Prelude.{◌≡◌, ℕ, ◌+◌, true, false, if◌then◌else◌, List, [], ◌∷◌, ◌++◌, Result, Ok, Err}
 use Rattle.geo_base.specs.declared.event.Step.{Step}
 use Rattle.geo_base.specs.Setup.{Setup}
@@ -38,7 +38,7 @@ abbrev pub schedule_text : Names → List Step → List ℕ
 schedule_text n [] = []
 schedule_text n (s ∷ ss) = step_line n s ++ 10 ∷ schedule_text n ss
 
--- ---- a schedule behind a script and one more step, whose line has number `at`: the script with that step and its steps, or
+-- ---- a schedule after a script and one more step, whose line has number `at`: the script with that step and its steps, or
 -- its first offending line, counted on from there
 abbrev pub followed : Script → ℕ → Step → Result (List Step) Fault → Result Script Fault
 followed s at e (Ok more) = Ok (record s { steps = s.steps ++ e ∷ more; first_event = first_of s.first_event at })

@@ -1,4 +1,4 @@
-//! What is written reads back, and what a schedule says behind a script.
+//! What is written reads back, and what a schedule says after a script.
 ghost use Rattle.std.specs.Prelude.{◌≡◌, ℕ, ◌+◌, List, [], ◌∷◌, ◌++◌, length, Ok, IsOkAnd};
 ghost use Rattle.geo_base.specs.declared.event.Step.{Step};
 ghost use Rattle.script_rows.specs.Written.{step_line};
@@ -16,9 +16,9 @@ pub fn declarations_read_back()
         → script_of (declarations_text s.setup s.chance) ≡ Ok (declared_alone s.setup s.chance) }
 {}
 
-/// A schedule by itself says what its lines say behind a script, of which a line feed ends the last line.
+/// A schedule by itself says what its lines say after a script, of which a line feed ends the last line.
 pub fn schedules_go_on()
-    // What stands behind the declarations of an accepted script is its schedule.
+    // What stands after the declarations of an accepted script is its schedule.
     ensures parted { (s : Script) (events : List ℕ) → IsScenario s
         → script_of (declarations_text s.setup s.chance ++ events) ≡ Ok s → schedule_of s.setup events ≡ Ok s.steps }
 
@@ -27,7 +27,7 @@ pub fn schedules_go_on()
         → schedule_of s.setup events ≡ Ok more
         → IsOkAnd (script_of (text ++ 10 ∷ events)) (IsWithSteps s (s.steps ++ more)) }
 
-    // Behind a step, whatever bytes a schedule has, it adds the same steps, or breaks the same rule at a line that counts on.
+    // After a step, whatever bytes a schedule has, it adds the same steps, or breaks the same rule at a line that counts on.
     ensures behind { (text events : List ℕ) (s : Script) (e : Step) → IsScenario s → script_of (text ++ 10 ∷ []) ≡ Ok s
         → IsStep s.setup e
         → script_of (text ++ 10 ∷ (step_line (names_of s.setup) e ++ 10 ∷ events))

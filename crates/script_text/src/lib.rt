@@ -17,7 +17,7 @@
 //! `specs/Rules.antt` has the rules of a line and of the whole, `specs/Adding.antt` what a line adds, and `script_of` is what
 //! the bytes of a script mean. [`read_script`] reads one, and a [`Scenario`] is what an accepted one says.
 //! [`read_schedule`] and [`write_schedule`] read and write events that stand by themselves, and [`schedules_go_on`] says what
-//! they say behind a script.
+//! they say after a script.
 #![tactic(auto)]
 
 mod canonical;

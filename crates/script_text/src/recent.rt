@@ -22,12 +22,12 @@ const SPREAD: u64 = 0x9e37_79b9_7f4a_7c15;
 
 /// A line without its line feed, and the step that it schedules; none where no line was noted.
 #[derive(Drop)]
-struct Place<'a> {
+struct RecentLine<'a> {
     line: &'a [u8],
     step: Option<Short>,
 }
 
-impl<'a> Model for Place<'a> {
+impl<'a> Model for RecentLine<'a> {
     ghost use Rattle.script_text.specs.Recent.{Kept};
 
     ghost Value = { Kept };
@@ -35,7 +35,7 @@ impl<'a> Model for Place<'a> {
     ghost view = { λ p. record { line = p.line.now; step = p.step } };
 }
 
-impl<'a> Place<'a> {
+impl<'a> RecentLine<'a> {
     /// The step of a line, where it is this one.
     fn step_of(&self, line: &[u8]) -> Option<&Short>
         ensures { IfSome result (λ s. self.now ≡ record { line = line.now; step = Some s.now }) }
@@ -51,7 +51,7 @@ impl<'a> Place<'a> {
 /// The lines that were read last.
 #[derive(Drop)]
 pub(crate) struct Recent<'a> {
-    places: Vec<Place<'a>>,
+    places: Vec<RecentLine<'a>>,
 }
 
 impl<'a> Model for Recent<'a> {
@@ -74,7 +74,7 @@ impl<'a> Recent<'a> {
         let mut places = Vec::new(alloc);
         places.reserve_exact(PLACES)?;
         for _place in 0..PLACES {
-            places.push(Place {
+            places.push(RecentLine {
                 line: &[],
                 step: None,
             })?;
@@ -94,7 +94,7 @@ impl<'a> Recent<'a> {
         ensures { IsNoted self.old self.new (record { line = line.now; step = Some step.now }) }
     {
         if let Some(short) = Short::of(step) {
-            self.places[place_of(line)] = Place {
+            self.places[place_of(line)] = RecentLine {
                 line,
                 step: Some(short),
             };

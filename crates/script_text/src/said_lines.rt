@@ -57,7 +57,7 @@ impl<'a> Model for SaidLines<'a> {
 }
 
 impl<'a> SaidLines<'a> {
-    /// Those of a text from behind its first so many lines on, which say nothing else; none where it has fewer lines.
+    /// Those of a text from after its first so many lines on, which say nothing else; none where it has fewer lines.
     #[tactic(auto, using(crate::proofs::LineCounts::length_lines_of))]
     pub fn behind(text: &'a [u8], lines: u64) -> SaidLines<'a>
         ensures { result ≡ said_from (lines + 1) (drop lines (lines_of text.now)) }

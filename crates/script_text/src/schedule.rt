@@ -1,4 +1,4 @@
-//! Schedules that stand by themselves, behind the declarations of a script.
+//! Schedules that stand by themselves, after the declarations of a script.
 ghost use Rattle.std.specs.Prelude.{◌≡◌, ℕ, ◌<◌, ◌^◌, ◌⊎◌, List, [], length, All, Err, Ok, IfOk};
 ghost use Rattle.geo_base.specs.declared.event.Step.{Step};
 ghost use Rattle.script_text.specs.Drafts.{Answers, Takes};

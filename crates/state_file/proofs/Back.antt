@@ -4,7 +4,6 @@ use Rattle.std.specs.Prelude.{nat_lt}
 use Rattle.std.specs.Str.{bytes_eq}
 use Rattle.std.proofs.lemmas.Bool.Decides.{nat_tests}
 use Rattle.std.proofs.lemmas.List.{append-nil, drop_at, get_or_at, length-append, take_at}
-use Rattle.std.proofs.lemmas.Slice.Eq.{bytes_eq-Decides}
 use Rattle.geo_base.specs.Broker.{Broker}
 use Rattle.geo_base.specs.Client.{Client}
 use Rattle.geo_base.specs.Setup.{Declared, Setup, nobody}
@@ -27,16 +26,14 @@ use Rattle.state_file.specs.Reading.{AreNodes, IsBody, IsNodeBehind, client_behi
 use Rattle.state_file.proofs.Declared.{same}
 use Rattle.state_file.specs.State.{SavedState}
 use Rattle.state_file.specs.Texts.{body_text, clients_text, declared_text, magic, nodes_from, state_text}
+use Rattle.geo_base.proofs.Lists.{bytes_eq_itself}
 
 -- ---- the declarations
-
-itself : (t : List ℕ) → bytes_eq t t ≡ true
-itself t = (bytes_eq-Decides t t).1 refl
 
 many_again : (s : Script) (rest : List ℕ) → script_of (declarations_text s.setup s.chance) ≡ Ok s → so_many (length (declarations_text s.setup s.chance)) (declarations_text s.setup s.chance ++ rest) ≡ Ok (s, rest)
 many_again s rest back =
     let t : List ℕ = declarations_text s.setup s.chance in
-    same (length t) (t ++ rest) t rest s true (omega (arith, length-append t rest)) (sym (take_at t rest (length t) refl)) (sym (drop_at t rest (length t) refl)) back (sym (itself t)) refl
+    same (length t) (t ++ rest) t rest s true (omega (arith, length-append t rest)) (sym (take_at t rest (length t) refl)) (sym (drop_at t rest (length t) refl)) back (sym (bytes_eq_itself t)) refl
 
 declared_again : (s : Script) (rest : List ℕ) → script_of (declarations_text s.setup s.chance) ≡ Ok s → length (declarations_text s.setup s.chance) < 2 ^ 64 → declarations_at (declared_text s ++ rest) ≡ Ok (s, rest)
 unfolding declarations_at
@@ -85,7 +82,7 @@ head_again : (s : SavedState) (rest : List ℕ) → IsState s → length (declar
 unfolding head_at
 head_again s rest h short = rw (declared_again s.scenario (counts_text s.counts ++ rest) h.declared short, counts_again s.counts rest h.counts) refl
 
-tail_again : (s : SavedState) (size : ℕ) → IsState s → tail_at size size s.scenario s.counts s.nodes (clients_text s.clients) ≡ Ok s
+tail_again : (s : SavedState) (size : ℕ) → IsState s → tail_at size size s.scenario s.counts s.brokers (clients_text s.clients) ≡ Ok s
 unfolding tail_at
 tail_again s size h =
     let read : many (client_behind s.scenario.setup) (length s.scenario.setup.clients) [] (clients_text s.clients) ≡ Ok (s.clients, []) =
@@ -99,13 +96,13 @@ body_again s h =
     let d : List ℕ = declared_text s.scenario in
     let t : List ℕ = declarations_text s.scenario.setup s.scenario.chance in
     let c : List ℕ = counts_text s.counts in
-    let ns : List ℕ = nodes_from s.scenario.setup.clusters 0 s.nodes in
+    let ns : List ℕ = nodes_from s.scenario.setup.clusters 0 s.brokers in
     let ks : List ℕ = clients_text s.clients in
     let short : length t < 2 ^ 64 = omega (arith, h.short, length-append d (c ++ (ns ++ ks)), length-append (number (length t)) t) in
-    let nodes : Many (IsNodeBehind 2 s.scenario.setup) (length s.nodes) [] (ns ++ ks) (Ok (s.nodes, ks)) = nodes_again s.scenario.setup s.nodes [] ks h.nodes in
-    let all_ : AreNodes 2 s.scenario.setup (ns ++ ks) (Ok (s.nodes, ks)) =
-    subst (λ (n : ℕ). Many (IsNodeBehind 2 s.scenario.setup) n [] (ns ++ ks) (Ok (s.nodes, ks))) h.all_nodes nodes in
-    Then.goes ((s.scenario, s.counts), ns ++ ks) (sym (head_again s (ns ++ ks) h short)) (Then.goes (s.nodes, ks) all_ (sym (tail_again s (length (body_text s)) h)))
+    let brokers : Many (IsNodeBehind 2 s.scenario.setup) (length s.brokers) [] (ns ++ ks) (Ok (s.brokers, ks)) = nodes_again s.scenario.setup s.brokers [] ks h.brokers in
+    let all_ : AreNodes 2 s.scenario.setup (ns ++ ks) (Ok (s.brokers, ks)) =
+    subst (λ (n : ℕ). Many (IsNodeBehind 2 s.scenario.setup) n [] (ns ++ ks) (Ok (s.brokers, ks))) h.all_nodes brokers in
+    Then.goes ((s.scenario, s.counts), ns ++ ks) (sym (head_again s (ns ++ ks) h short)) (Then.goes (s.brokers, ks) all_ (sym (tail_again s (length (body_text s)) h)))
 
 magic_again : (m rest : List ℕ) → length m ≡ 8 → bytes_eq m magic ≡ true → magic_at (m ++ rest) ≡ Ok (m, rest)
 unfolding magic_at
@@ -116,7 +113,7 @@ magic_again m rest len eq =
 version_again : (rest : List ℕ) → version_at (magic ++ (word 2 ++ rest)) ≡ Ok (2, rest)
 unfolding version_at
 version_again rest =
-    ap (λ (r : Read (List ℕ)). r >>= λ f. word_at f.1) (magic_again magic (word 2 ++ rest) refl (itself magic)) ∙ word_again 2 rest (omega arith)
+    ap (λ (r : Read (List ℕ)). r >>= λ f. word_at f.1) (magic_again magic (word 2 ++ rest) refl (bytes_eq_itself magic)) ∙ word_again 2 rest (omega arith)
 
 pub state_again : (s : SavedState) (more : List ℕ) → IsState s → IsLoaded (state_text s ++ more) (Ok (s, length (state_text s)))
 state_again s more h =

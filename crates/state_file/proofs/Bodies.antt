@@ -18,8 +18,8 @@ pub nodes_stop : (version size : ℕ) (body : List ℕ) (script : Script) (count
 nodes_stop version size body script counts rest item_fault.Memory read h = tt
 nodes_stop version size body script counts rest (item_fault.Broken b) read h = goes ((script, counts), rest) (sym read) (stops b h refl)
 
-pub tail_told : {X : Type 0} (version size : ℕ) (body : List ℕ) (script : Script) (counts : Counts) (rest : List ℕ) (nodes : List Broker) (behind : List ℕ) (view : X → SavedState) (r : Result X ItemFault) → head_at body ≡ Ok ((script, counts), rest)
-    → AreNodes version script.setup rest (Ok (nodes, behind)) → Gives view r (tail_at size (length body) script counts nodes behind) → Tells view r (IsBody version size body)
-tail_told version size body script counts rest nodes behind view (Ok x) read ns g = goes ((script, counts), rest) (sym read) (goes (nodes, behind) ns (sym g))
-tail_told version size body script counts rest nodes behind view (Err item_fault.Memory) read ns g = tt
-tail_told version size body script counts rest nodes behind view (Err (item_fault.Broken b)) read ns g = goes ((script, counts), rest) (sym read) (goes (nodes, behind) ns (sym g))
+pub tail_told : {X : Type 0} (version size : ℕ) (body : List ℕ) (script : Script) (counts : Counts) (rest : List ℕ) (brokers : List Broker) (behind : List ℕ) (view : X → SavedState) (r : Result X ItemFault) → head_at body ≡ Ok ((script, counts), rest)
+    → AreNodes version script.setup rest (Ok (brokers, behind)) → Gives view r (tail_at size (length body) script counts brokers behind) → Tells view r (IsBody version size body)
+tail_told version size body script counts rest brokers behind view (Ok x) read ns g = goes ((script, counts), rest) (sym read) (goes (brokers, behind) ns (sym g))
+tail_told version size body script counts rest brokers behind view (Err item_fault.Memory) read ns g = tt
+tail_told version size body script counts rest brokers behind view (Err (item_fault.Broken b)) read ns g = goes ((script, counts), rest) (sym read) (goes (brokers, behind) ns (sym g))

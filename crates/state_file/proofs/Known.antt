@@ -91,10 +91,10 @@ nodes_known version s bytes x h =
     let all = all_told (IsNodeBehind version s) (IsKnownBehind s) (node_behind version s) n [] bytes x h in
     record { count = listed_count (IsKnownBehind s) n x.0 all; each = listed_all (IsKnownBehind s) n x.0 all }
 
-tail_known : (size there : ℕ) (script : Script) (counts : Counts) (nodes : List Broker) (bytes : List ℕ) (s : SavedState) → IsKnownHead script counts → AreKnownNodes script.setup nodes
-    → tail_at size there script counts nodes bytes ≡ Ok s → IsKnownState s
+tail_known : (size there : ℕ) (script : Script) (counts : Counts) (brokers : List Broker) (bytes : List ℕ) (s : SavedState) → IsKnownHead script counts → AreKnownNodes script.setup brokers
+    → tail_at size there script counts brokers bytes ≡ Ok s → IsKnownState s
 unfolding tail_at
-tail_known size there script counts nodes bytes s head each h =
+tail_known size there script counts brokers bytes s head each h =
     let n = length script.setup.clients in
     let a = came (many (client_behind script.setup) n [] bytes) _ s h in
     let b = came (judge ((there - length a.first.1) == size) a.first.1 rule.End) _ s a.next in
@@ -103,7 +103,7 @@ tail_known size there script counts nodes bytes s head each h =
       declared = head.declared;
       counts = head.counts;
       all_nodes = each.count;
-      nodes = each.each;
+      brokers = each.each;
       all_clients = listed_count (IsClientBehind script.setup) n a.first.0 all;
       clients = listed_all (IsClientBehind script.setup) n a.first.0 all;
     })

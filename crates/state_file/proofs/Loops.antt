@@ -12,7 +12,7 @@ use Rattle.state_items.specs.Reading.{Fails, Read, many}
 use Rattle.state_items.specs.Telling.{Many, TellsFault}
 use Rattle.state_items.proofs.Loops as loops
 use Rattle.state_items.proofs.Many as told
-use Rattle.state_nodes.specs.declared.nodes.NodeParts.{NodeParts}
+use Rattle.state_nodes.specs.declared.brokers.NodeParts.{NodeParts}
 use Rattle.state_nodes.specs.Nodes.{IsNode, broker_of}
 use Rattle.state_file.specs.Reading.{AreNodes, IsNodeBehind, client_behind}
 

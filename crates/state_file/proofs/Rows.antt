@@ -8,7 +8,7 @@ use Rattle.geo_base.specs.Broker.{Broker}
 use Rattle.geo_base.specs.Client.{Client}
 use Rattle.state_nodes.specs.Clients.{client_text}
 use Rattle.state_file.specs.Texts.{clients_text, nodes_from}
-use Rattle.state_nodes.specs.declared.nodes.NodeParts.{NodeParts}
+use Rattle.state_nodes.specs.declared.brokers.NodeParts.{NodeParts}
 use Rattle.state_nodes.specs.Nodes.{broker_of, node_text}
 use Rattle.state_nodes.specs.Writing.{CanWrite}
 

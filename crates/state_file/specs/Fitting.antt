@@ -26,6 +26,6 @@ pub record IsState (s : SavedState) : Type 0 where
   pub declared : script_of (declarations_text s.scenario.setup s.scenario.chance) ≡ Ok s.scenario
   pub short : length (body_text s) < 2 ^ 32
   pub counts : AreCounts s.counts
-  pub all_nodes : length s.nodes ≡ length s.scenario.setup.topics * length s.scenario.setup.clusters
-  pub nodes : AreDurable s.scenario.setup 0 s.nodes
+  pub all_nodes : length s.brokers ≡ length s.scenario.setup.topics * length s.scenario.setup.clusters
+  pub brokers : AreDurable s.scenario.setup 0 s.brokers
   pub clients : AreClients (length s.scenario.setup.clusters) s.scenario.setup.clients s.clients

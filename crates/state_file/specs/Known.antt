@@ -11,11 +11,11 @@ use Rattle.state_items.specs.Fitting.{AllFit}
 use Rattle.state_nodes.specs.Fitting.{AreCounts}
 use Rattle.state_nodes.specs.Known.{IsKnownNode}
 
--- a broker behind others, by topic and then by cluster
+-- a broker after others, by topic and then by cluster
 abbrev pub IsKnownBehind : Setup → List Broker → Broker → Type 0
 IsKnownBehind s before b = IsKnownNode s.per_ledger s.clusters (length before % length s.clusters) b
 
--- a client behind others, in order
+-- a client after others, in order
 abbrev pub IsClientBehind : Setup → List Client → Client → Type 0
 IsClientBehind s before k = IsKnownClient (length s.clusters) (declared_at s (length before)).lines k
 
@@ -23,7 +23,7 @@ IsClientBehind s before k = IsKnownClient (length s.clusters) (declared_at s (le
 pub record IsKnownState (s : SavedState) : Type 0 where
   pub declared : script_of (declarations_text s.scenario.setup s.scenario.chance) ≡ Ok s.scenario
   pub counts : AreCounts s.counts
-  pub all_nodes : length s.nodes ≡ length s.scenario.setup.topics * length s.scenario.setup.clusters
-  pub nodes : AllFit (IsKnownBehind s.scenario.setup) [] s.nodes
+  pub all_nodes : length s.brokers ≡ length s.scenario.setup.topics * length s.scenario.setup.clusters
+  pub brokers : AllFit (IsKnownBehind s.scenario.setup) [] s.brokers
   pub all_clients : length s.clients ≡ length s.scenario.setup.clients
   pub clients : AllFit (IsClientBehind s.scenario.setup) [] s.clients

@@ -7,7 +7,7 @@ use Rattle.state_file.specs.State.{SavedState}
 use Rattle.state_file.specs.Reading.{IsBody, version_at}
 
 -- why a file is refused: the first item that breaks a rule, by the offset of its first byte and the rule's number, or a version
--- that nobody reads, which is judged before what stands behind it
+-- that nobody reads, which is judged before what stands after it
 pub data Refusal : Type 0 where
   bad_state : (offset rule : ℕ) → Refusal
   version : (n : ℕ) → Refusal
@@ -19,7 +19,7 @@ is_known v = (v == 1) || (v == 2)
 abbrev pub bad : ℕ → Broken → Refusal
 bad whole b = bad_state (whole - b.left) (number_of b.rule)
 
--- a state and how many bytes it takes; the body begins behind twenty
+-- a state and how many bytes it takes; the body begins after twenty
 abbrev pub Loaded : Type 0
 Loaded = Result (SavedState × ℕ) Refusal
 

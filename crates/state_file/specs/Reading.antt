@@ -17,7 +17,7 @@ use Rattle.state_nodes.specs.declared.counts.Counts.{Counts}
 use Rattle.state_nodes.specs.Counts.{counts_at}
 use Rattle.state_nodes.specs.Nodes.{IsNode}
 
--- the first eight bytes, and the version behind them
+-- the first eight bytes, and the version after them
 unfoldable pub magic_at : List ℕ → Read (List ℕ)
 magic_at bytes =
     if nat_lt (length bytes) 8 then Err (broken bytes rule.Whole)
@@ -39,7 +39,7 @@ abbrev pub scripted : List ℕ → List ℕ → Option Script → Read Script
 scripted item rest None = Err (broken item rule.Declarations)
 scripted item rest (Some s) = Ok (s, rest)
 
--- the bytes of the declarations are an item of their own, behind their length
+-- the bytes of the declarations are an item of their own, after their length
 abbrev pub so_many : ℕ → List ℕ → Read Script
 so_many n bytes =
     if nat_lt (length bytes) n then Err (broken bytes rule.Whole)
@@ -59,7 +59,7 @@ head_at bytes = do
 
 -- ---- brokers and clients
 
--- a broker behind others: its number is how many they are
+-- a broker after others: its number is how many they are
 abbrev pub IsNodeBehind : ℕ → Setup → List Broker → List ℕ → Read Broker → Type 0
 IsNodeBehind version s before bytes answer = IsNode version s.per_ledger s.clusters (length before % length s.clusters) bytes answer
 
@@ -69,12 +69,12 @@ AreNodes version s bytes answer = Many (IsNodeBehind version s) (length s.topics
 abbrev pub client_behind : Setup → List Client → List ℕ → Read Client
 client_behind s before bytes = client_at (length s.clusters) (declared_at s (length before)).lines bytes
 
--- what stands behind the brokers of a body of size bytes, of which whole are there: nothing behind the last client
+-- what stands after the brokers of a body of size bytes, of which whole are there: nothing after the last client
 unfoldable pub tail_at : ℕ → ℕ → Script → Counts → List Broker → List ℕ → Answer SavedState
-tail_at size whole script counts nodes bytes = do
+tail_at size whole script counts brokers bytes = do
   clients ← many (client_behind script.setup) (length script.setup.clients) [] bytes
   ended ← judge ((whole - length clients.1) == size) clients.1 rule.End
-  Ok (record { scenario = script; counts = counts; nodes = nodes; clients = clients.0 })
+  Ok (record { scenario = script; counts = counts; brokers = brokers; clients = clients.0 })
 
 -- the body of a file of a version: size bytes, as many of them as there are
 abbrev pub IsBody : ℕ → ℕ → List ℕ → Answer SavedState → Type 0

@@ -17,26 +17,26 @@ use Rattle.state_nodes.specs.Nodes.{broker_of}
 pub record SavedState : Type 0 where
   pub scenario : Script
   pub counts : Counts
-  pub nodes : List Broker
+  pub brokers : List Broker
   pub clients : List Client
 
 abbrev pub state_of : Saved → SavedState
 state_of s = record {
   scenario = s.scenario;
   counts = s.counts;
-  nodes = map broker_of s.nodes.items;
+  brokers = map broker_of s.brokers.items;
   clients = map stopped s.clients.items;
 }
 
 -- the state of what stands before the clients, and of these
 abbrev pub with_clients : Script → Counts → List Broker → List ClientState → SavedState
-with_clients script counts nodes ks = record { scenario = script; counts = counts; nodes = nodes; clients = map stopped ks }
+with_clients script counts brokers ks = record { scenario = script; counts = counts; brokers = brokers; clients = map stopped ks }
 
 -- of a script's world that is stopped: what the script declares, what the run counted, what is durable of the brokers, and the clients
 abbrev pub state_in : Script → World → SavedState
 state_in s w = record {
   scenario = declared_alone s.setup s.chance;
   counts = record { events = w.events; idle = w.idle; rounds = w.rounds; frame_bytes = w.frame_bytes };
-  nodes = map durable_part w.brokers;
+  brokers = map durable_part w.brokers;
   clients = w.clients;
 }

@@ -18,7 +18,7 @@ magic = codes "GEOSTATE"
 abbrev pub newest : ℕ
 newest = 2
 
--- the canonical declarations, behind their length
+-- the canonical declarations, after their length
 abbrev pub declared_text : Script → List ℕ
 declared_text s = number (length (declarations_text s.setup s.chance)) ++ declarations_text s.setup s.chance
 
@@ -34,7 +34,7 @@ clients_text (k ∷ ks) = client_text k ++ clients_text ks
 abbrev pub body_text : SavedState → List ℕ
 body_text s =
     declared_text s.scenario
-    ++ (counts_text s.counts ++ (nodes_from s.scenario.setup.clusters 0 s.nodes ++ clients_text s.clients))
+    ++ (counts_text s.counts ++ (nodes_from s.scenario.setup.clusters 0 s.brokers ++ clients_text s.clients))
 
 abbrev pub state_text : SavedState → List ℕ
 state_text s = magic ++ (word newest ++ (number (length (body_text s)) ++ body_text s))

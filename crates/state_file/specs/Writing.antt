@@ -4,4 +4,4 @@ use Rattle.state_file.specs.State.{SavedState}
 use Rattle.state_nodes.specs.Writing.{CanWrite}
 
 abbrev pub CanSave : SavedState → Type 0
-CanSave s = All CanWrite s.nodes
+CanSave s = All CanWrite s.brokers

@@ -30,11 +30,11 @@ pub(crate) fn body_at(
 {
     let ((scenario, counts), rest) = head_at(alloc, body)?;
     match nodes_at(alloc, version, &scenario, rest) {
-        Ok((nodes, rest)) => {
+        Ok((brokers, rest)) => {
             let begun = Begun {
                 scenario,
                 counts,
-                nodes,
+                brokers,
             };
             tail_at(alloc, size, body.len(), begun, rest)
         }
@@ -50,10 +50,10 @@ pub(crate) fn body_at(
 struct Begun {
     scenario: Scenario,
     counts: Counts,
-    nodes: Vec<NodeParts>,
+    brokers: Vec<NodeParts>,
 }
 
-/// The clients, behind which nothing stands.
+/// The clients, after which nothing stands.
 fn tail_at(
     alloc: Global,
     size: u64,
@@ -61,14 +61,14 @@ fn tail_at(
     begun: Begun,
     bytes: &[u8],
 ) -> Result<Saved, ItemFault>
-    ensures read { Gives state_of result (tail_at size whole begun.scenario begun.counts (map broker_of begun.nodes.items) bytes.now) }
+    ensures read { Gives state_of result (tail_at size whole begun.scenario begun.counts (map broker_of begun.brokers.items) bytes.now) }
     ensures size { OnOk result (size ≤ whole) }
 {
     match last_clients_at(alloc, size, whole, &begun.scenario, bytes) {
         Ok(clients) => Ok(Saved {
             scenario: begun.scenario,
             counts: begun.counts,
-            nodes: begun.nodes,
+            brokers: begun.brokers,
             clients,
         }),
         Err(fault) => {
@@ -78,7 +78,7 @@ fn tail_at(
     }
 }
 
-/// The clients alone, behind which nothing stands; what stands before them says nothing of them but by the script.
+/// The clients alone, after which nothing stands; what stands before them says nothing of them but by the script.
 #[tactic(auto, unfolding(crate::specs::Reading::tail_at))]
 fn last_clients_at(
     alloc: Global,
@@ -87,8 +87,8 @@ fn last_clients_at(
     scenario: &Scenario,
     bytes: &[u8],
 ) -> Result<Vec<ClientState>, ItemFault>
-    ensures read { (counts : Counts) (nodes : List Broker)
-        → Gives (λ v. with_clients scenario.now counts nodes v.items) result (tail_at size whole scenario.now counts nodes bytes.now) }
+    ensures read { (counts : Counts) (brokers : List Broker)
+        → Gives (λ v. with_clients scenario.now counts brokers v.items) result (tail_at size whole scenario.now counts brokers bytes.now) }
     ensures size { OnOk result (size ≤ whole) }
 {
     let (clients, rest) = clients_at(alloc, scenario, bytes)?;
@@ -114,15 +114,15 @@ fn nodes_at<'a>(
 {
     let names = scenario.clusters();
     let count = scenario.topics().len() * names.len();
-    let mut nodes: Vec<NodeParts> = Vec::new(alloc);
+    let mut brokers: Vec<NodeParts> = Vec::new(alloc);
     let mut rest = bytes;
     for number in 0..count {
         let own = (number % names.len()) as u32;
         let (node, after) = node_at(alloc, version, scenario.per_ledger(), names, own, rest)?;
-        nodes.push(node)?;
+        brokers.push(node)?;
         rest = after;
     }
-    Ok((nodes, rest))
+    Ok((brokers, rest))
 }
 
 /// The clients in the script's order.

@@ -56,7 +56,7 @@ pub(crate) fn head_at(alloc: Global, bytes: &[u8]) -> Result<((Scenario, Counts)
     }
 }
 
-/// The declarations, behind their length.
+/// The declarations, after their length.
 #[tactic(auto, unfolding(crate::specs::Reading::declarations_at))]
 fn declarations_at(alloc: Global, bytes: &[u8]) -> Result<(Scenario, &[u8]), ItemFault>
     requires { length bytes.now < 2 ^ 32 }

@@ -6,7 +6,7 @@ ghost use Rattle.state_file.specs.Loading.{IsLoaded, Loaded};
 ghost use Rattle.state_file.specs.State.{SavedState};
 ghost use Rattle.state_file.specs.Texts.{state_text};
 
-/// A state is loaded as it was saved, with as many bytes as were written, whatever stands behind them.
+/// A state is loaded as it was saved, with as many bytes as were written, whatever stands after them.
 pub fn saved_is_loaded()
     ensures { (s : SavedState) (more : List ℕ) → IsState s → IsLoaded (state_text s ++ more) (Ok (s, length (state_text s))) }
 {}

@@ -20,7 +20,7 @@ const FIRST: u32 = 1;
 const FRONT_BYTES: usize = 20;
 
 /// Loads the state at the front of the bytes, of which there are fewer than 2^32, and tells how many bytes it takes: what stands
-/// behind them is not looked at.
+/// after them is not looked at.
 ///
 /// `BadState` comes exactly where an item breaks a rule, and names the first one and the lowest rule that it breaks; `Version` where
 /// the version is neither 1 nor 2. `Memory` may come at any bytes. It takes memory only for what the bytes hold.

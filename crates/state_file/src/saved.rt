@@ -9,7 +9,7 @@ use state_nodes::{Counts, NodeParts};
 pub struct Saved {
     pub scenario: Scenario,
     pub counts: Counts,
-    pub nodes: Vec<NodeParts>,
+    pub brokers: Vec<NodeParts>,
     pub clients: Vec<ClientState>,
 }
 

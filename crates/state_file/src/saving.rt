@@ -42,7 +42,7 @@ fn body_of(alloc: Global, saved: &Saved) -> Result<Blob, Memory>
         alloc,
         &mut out,
         saved.scenario.clusters(),
-        saved.nodes.as_slice(),
+        saved.brokers.as_slice(),
     )?;
     put_clients(&mut out, saved.clients.as_slice())?;
     Ok(out)
@@ -62,16 +62,16 @@ fn put_nodes(
     alloc: Global,
     out: &mut Blob,
     names: &[ClusterName],
-    nodes: &[NodeParts],
+    brokers: &[NodeParts],
 ) -> Result<(), Memory>
     requires some { 0 < length names.now }
     requires few { length names.now < 2 ^ 32 }
-    requires can { All CanWrite (map broker_of nodes.now) }
-    ensures { OnOk result (out.new ≡ out.old ++ nodes_from names.now 0 (map broker_of nodes.now)) }
+    requires can { All CanWrite (map broker_of brokers.now) }
+    ensures { OnOk result (out.new ≡ out.old ++ nodes_from names.now 0 (map broker_of brokers.now)) }
 {
-    for number in 0..nodes.len() {
+    for number in 0..brokers.len() {
         let own = (number % names.len()) as u32;
-        put_node(alloc, out, names, own, &nodes[number])?;
+        put_node(alloc, out, names, own, &brokers[number])?;
     }
     Ok(())
 }

@@ -1,4 +1,4 @@
--- Indexes and ranges behind others.
+-- Indexes and ranges after others.
 use Rattle.std.proofs.Common.{◌≡◌, ℕ, zero, suc, ◌+◌, ◌-◌, ◌<◌, ◌≤◌, ◌==◌, nat_lt, true, false, List, [], ◌∷◌, ◌++◌, length, get_or, take, inl, inr, refl, sym, ap, ◌∙◌, append_assoc, arith}
 use Rattle.std.specs.List.{range_with_len}
 use Rattle.std.proofs.lemmas.Bool.{cases_lt, true≢false}
@@ -13,8 +13,9 @@ use Rattle.cursor_acks.specs.Ranges.{covers, indexes_of}
 use Rattle.cursor_acks.proofs.Covered.{has_indexes, uncovered}
 use Rattle.cursor_acks.proofs.Sets.{has_append}
 use Rattle.state_items.specs.Ranges.{AreIn, IsNext, is_behind, no_range}
+use Rattle.geo_base.proofs.Lists.{range_push}
 
--- ---- indexes behind a set
+-- ---- indexes after a set
 
 tail_below : (x : ℕ) (xs : List ℕ) (i : ℕ) → AreBelow i (x ∷ xs) → AreBelow i xs
 tail_below x xs i h j e = h j (grind (arith, e))
@@ -26,11 +27,6 @@ behind_all (x ∷ xs) i h =
     let past : nat_lt i x ≡ false = grind (arith, nat_tests, lt) in
     let other : (x == i) ≡ false = grind (arith, nat_tests, lt) in
     rw (past, other) (ap (λ (ys : List ℕ). x ∷ ys) (behind_all xs i (tail_below x xs i h)))
-
-range_push : (a n : ℕ) → range_with_len a (suc n) ≡ range_with_len a n ++ (a + n) ∷ []
-range_push a zero = ap (λ (x : ℕ). x ∷ []) (omega arith)
-range_push a (suc n) =
-    ap (λ (ys : List ℕ). a ∷ ys) (range_push (a + 1) n ∙ ap (λ (x : ℕ). range_with_len (a + 1) n ++ x ∷ []) (omega arith))
 
 pub none_more : (old : List ℕ) (first : ℕ) → old ≡ old ++ range_with_len first (first - first)
 none_more old first =
@@ -51,7 +47,7 @@ below_more set new i h e j there =
     let old : has set j ≡ true → j < i = h j in
     grind (arith, nat_tests, has_append set (i ∷ []) j, in', old)
 
--- ---- ranges behind ranges
+-- ---- ranges after ranges
 
 indexes_append : (rs ss : List IndexRange) → indexes_of (rs ++ ss) ≡ indexes_of rs ++ indexes_of ss
 indexes_append [] ss = refl
@@ -90,7 +86,7 @@ none_in n = record {
   within = λ k d lt. absurd (omega (arith, lt));
 }
 
--- the end of each range lies before what lies behind the last one
+-- the end of each range lies before what lies after the last one
 all_before : (n : ℕ) (rs : List IndexRange) (first : ℕ) → AreIn n rs → is_behind rs first ≡ true → (k : ℕ) (d : IndexRange) → k < length rs → (get_or rs k d).last + 1 < first
 all_before n rs first h b k d lt =
     let at : length rs - 1 < length rs = omega arith in

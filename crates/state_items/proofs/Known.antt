@@ -43,7 +43,7 @@ within_known most r bytes x h =
 
 -- ---- lists
 
--- so many items behind others
+-- so many items after others
 pub record Listed {A : Type 0} (Fits : List A → A → Type 0) (before : List A) (n : ℕ) (xs : List A) : Type 0 where
   pub new : List A
   pub is : xs ≡ before ++ new

@@ -1,6 +1,6 @@
 -- Metadata and a payload are one entry.
 use Rattle.std.proofs.Common.{◌≡◌, ℕ, List, refl, sym, ◌∙◌, ap, subst}
-use Rattle.std.specs.Prelude.{Option, Some, None}
+use Rattle.std.specs.Prelude.{Option}
 use Rattle.geo_base.specs.declared.entry.Content.{Content}
 use Rattle.geo_base.specs.declared.entry.Content.TheVariants as content
 use Rattle.geo_base.specs.declared.entry.Entry.{Entry}
@@ -13,12 +13,7 @@ use Rattle.message_meta.specs.Metadata.{Metadata}
 use Rattle.pb_fields.specs.Canonical.{text}
 use Rattle.state_items.specs.Stored.{IsStored}
 use Rattle.frame_values.specs.Values.{IsContent, no_marker, canonical, foreign, unread, placed_marker}
-
-other : {k : ℕ} → ◌≡◌ {A = Option ℕ} None (Some k) → ⊥
-other e = cc
-
-number_one : (j k : ℕ) → ◌≡◌ {A = Option ℕ} (Some j) (Some k) → j ≡ k
-number_one j k e = cc
+use Rattle.geo_base.proofs.Results.{none_not_some, some_number}
 
 same_marker : (payload : List ℕ) (j k : ℕ) (m n : Marker) → j ≡ k → IsMarkerText j payload m → IsMarkerText k payload n → m ≡ n
 same_marker payload j k m n e h i = marker_one k payload m n (subst (λ (x : ℕ). IsMarkerText x payload m) e h) i
@@ -27,25 +22,25 @@ same_marker payload j k m n e h i = marker_one k payload m n (subst (λ (x : ℕ
 both_same : {names : List (List ℕ)} {number : Option ℕ} {payload : List ℕ} {c d : Content} {p q : List ℕ}
     → IsContent names number payload c p → IsContent names number payload d q → (c ≡ d) × (p ≡ q)
 both_same (no_marker n c p) (no_marker n' d q) = (c ∙ sym d, p ∙ sym q)
-both_same (no_marker n c p) (unread k n' not d q) = absurd (other (sym n ∙ n'))
-both_same (no_marker n c p) (canonical k m n' is t d q) = absurd (other (sym n ∙ n'))
-both_same (no_marker n c p) (foreign k m n' is t d q) = absurd (other (sym n ∙ n'))
-both_same (unread j n not c p) (no_marker n' d q) = absurd (other (sym n' ∙ n))
-both_same (unread j n not c p) (unread k n' not' d q) = (c ∙ ap content.Unread (number_one j k (sym n ∙ n')) ∙ sym d, p ∙ sym q)
-both_same {payload = payload} (unread j n not c p) (canonical k m n' is t d q) = absurd (not m (subst (λ (x : ℕ). IsMarkerText x payload m) (number_one k j (sym n' ∙ n)) is))
-both_same {payload = payload} (unread j n not c p) (foreign k m n' is t d q) = absurd (not m (subst (λ (x : ℕ). IsMarkerText x payload m) (number_one k j (sym n' ∙ n)) is))
-both_same (canonical j m n is t c p) (no_marker n' d q) = absurd (other (sym n' ∙ n))
-both_same {payload = payload} (canonical j m n is t c p) (unread k n' not d q) = absurd (not m (subst (λ (x : ℕ). IsMarkerText x payload m) (number_one j k (sym n ∙ n')) is))
+both_same (no_marker n c p) (unread k n' not d q) = absurd (none_not_some (sym n ∙ n'))
+both_same (no_marker n c p) (canonical k m n' is t d q) = absurd (none_not_some (sym n ∙ n'))
+both_same (no_marker n c p) (foreign k m n' is t d q) = absurd (none_not_some (sym n ∙ n'))
+both_same (unread j n not c p) (no_marker n' d q) = absurd (none_not_some (sym n' ∙ n))
+both_same (unread j n not c p) (unread k n' not' d q) = (c ∙ ap content.Unread (some_number j k (sym n ∙ n')) ∙ sym d, p ∙ sym q)
+both_same {payload = payload} (unread j n not c p) (canonical k m n' is t d q) = absurd (not m (subst (λ (x : ℕ). IsMarkerText x payload m) (some_number k j (sym n' ∙ n)) is))
+both_same {payload = payload} (unread j n not c p) (foreign k m n' is t d q) = absurd (not m (subst (λ (x : ℕ). IsMarkerText x payload m) (some_number k j (sym n' ∙ n)) is))
+both_same (canonical j m n is t c p) (no_marker n' d q) = absurd (none_not_some (sym n' ∙ n))
+both_same {payload = payload} (canonical j m n is t c p) (unread k n' not d q) = absurd (not m (subst (λ (x : ℕ). IsMarkerText x payload m) (some_number j k (sym n ∙ n')) is))
 both_same {names = names} {payload = payload} (canonical j m n is t c p) (canonical k m' n' is' t' d q) =
-    (c ∙ ap (λ (x : Marker). content.Marked (placed_marker names x)) (same_marker payload j k m m' (number_one j k (sym n ∙ n')) is is') ∙ sym d, p ∙ sym q)
+    (c ∙ ap (λ (x : Marker). content.Marked (placed_marker names x)) (same_marker payload j k m m' (some_number j k (sym n ∙ n')) is is') ∙ sym d, p ∙ sym q)
 both_same {payload = payload} (canonical j m n is t c p) (foreign k m' n' is' t' d q) =
-    absurd (t' (t ∙ ap (λ (x : Marker). text (canonical_fields x)) (same_marker payload j k m m' (number_one j k (sym n ∙ n')) is is')))
-both_same (foreign j m n is t c p) (no_marker n' d q) = absurd (other (sym n' ∙ n))
-both_same {payload = payload} (foreign j m n is t c p) (unread k n' not d q) = absurd (not m (subst (λ (x : ℕ). IsMarkerText x payload m) (number_one j k (sym n ∙ n')) is))
+    absurd (t' (t ∙ ap (λ (x : Marker). text (canonical_fields x)) (same_marker payload j k m m' (some_number j k (sym n ∙ n')) is is')))
+both_same (foreign j m n is t c p) (no_marker n' d q) = absurd (none_not_some (sym n' ∙ n))
+both_same {payload = payload} (foreign j m n is t c p) (unread k n' not d q) = absurd (not m (subst (λ (x : ℕ). IsMarkerText x payload m) (some_number j k (sym n ∙ n')) is))
 both_same {payload = payload} (foreign j m n is t c p) (canonical k m' n' is' t' d q) =
-    absurd (t (t' ∙ ap (λ (x : Marker). text (canonical_fields x)) (same_marker payload k j m' m (number_one k j (sym n' ∙ n)) is' is)))
+    absurd (t (t' ∙ ap (λ (x : Marker). text (canonical_fields x)) (same_marker payload k j m' m (some_number k j (sym n' ∙ n)) is' is)))
 both_same {names = names} {payload = payload} (foreign j m n is t c p) (foreign k m' n' is' t' d q) =
-    (c ∙ ap (λ (x : Marker). content.Marked (placed_marker names x)) (same_marker payload j k m m' (number_one j k (sym n ∙ n')) is is') ∙ sym d, p ∙ sym q)
+    (c ∙ ap (λ (x : Marker). content.Marked (placed_marker names x)) (same_marker payload j k m m' (some_number j k (sym n ∙ n')) is is') ∙ sym d, p ∙ sym q)
 
 -- an entry by its parts
 abbrev entry_by : ℕ → List ℕ → ℕ → Content → Targets → ℕ → Option (List ℕ) → List (List ℕ) → List ℕ → List ℕ → Entry

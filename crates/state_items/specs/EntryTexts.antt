@@ -1,8 +1,8 @@
 -- The texts of an entry.
 use Rattle.std.specs.Prelude.{◌≡◌, ℕ, ◌<◌, ◌^◌, ◌==◌, if◌then◌else◌, List, [], ◌++◌, length, Option, Some, None}
 use Rattle.geo_base.specs.declared.entry.Entry.{Entry}
-use Rattle.geo_base.specs.declared.marker.Place.{Place}
-use Rattle.geo_base.specs.declared.marker.Place.TheVariants as place
+use Rattle.geo_base.specs.declared.marker.ClusterRef.{ClusterRef}
+use Rattle.geo_base.specs.declared.marker.ClusterRef.TheVariants as cluster_ref
 use Rattle.message_meta.specs.Canonical.{optional_fields, required_fields}
 use Rattle.message_meta.specs.Metadata.{IsMetaText, Metadata}
 use Rattle.pb_fields.specs.declared.field.Field.{Field}
@@ -12,10 +12,10 @@ use Rattle.frame_values.specs.Coded.{IsMarkerRight}
 use Rattle.frame_values.specs.Texts.{metadata_of, payload_text}
 
 -- `replicated_from` stands where another cluster stored the entry first
-abbrev pub source_of : ℕ → ℕ → Option Place
-source_of own origin = if origin == own then None else Some (place.Known origin)
+abbrev pub source_of : ℕ → ℕ → Option ClusterRef
+source_of own origin = if origin == own then None else Some (cluster_ref.Known origin)
 
--- the fields that are known, and behind them the bytes of those that nobody reads
+-- the fields that are known, and after them the bytes of those that nobody reads
 abbrev pub with_rest : Metadata → List ℕ → List ℕ
 with_rest m rest = fields_text (required_fields m) ++ (fields_text (optional_fields m) ++ rest)
 

@@ -4,7 +4,7 @@ use Rattle.cursor_acks.specs.declared.range.IndexRange.{IndexRange}
 use Rattle.cursor_acks.specs.Ranges.{indexes_of}
 use Rattle.state_items.specs.Ranges.{AreIn}
 
--- each fits behind those before it
+-- each fits after those before it
 abbrev pub AllFit : {A : Type 0} → (List A → A → Type 0) → List A → List A → Type 0
 AllFit Fits before [] = Unit {0}
 AllFit Fits before (x ∷ xs) = Fits before x × AllFit Fits (before ++ x ∷ []) xs

@@ -13,7 +13,7 @@ no_range = record { first = 0; last = 0 }
 abbrev pub is_behind : List IndexRange → ℕ → Bool
 is_behind before first = (length before == 0) || nat_lt ((slice_index_or before (length before - 1) no_range).last + 1) first
 
--- a range behind those before it, in a topic of n entries
+-- a range after those before it, in a topic of n entries
 unfoldable pub range_at : ℕ → List IndexRange → List ℕ → Read IndexRange
 range_at n before bytes = do
   first ← number_at bytes
@@ -36,7 +36,7 @@ pub record AreIn (n : ℕ) (rs : List IndexRange) : Type 0 where
   pub apart : AreApart rs
   pub within : All (λ (r : IndexRange). r.last < n) rs
 
--- a range that may stand behind some
+-- a range that may stand after some
 pub record IsNext (n : ℕ) (before : List IndexRange) (r : IndexRange) : Type 0 where
   pub behind : is_behind before r.first ≡ true
   pub order : r.first ≤ r.last

@@ -15,7 +15,7 @@ broken bytes r = record { left = length bytes; rule = r }
 abbrev pub Answer : Type 0 → Type 0
 Answer A = Result A Broken
 
--- a value and the bytes behind it
+-- a value and the bytes after it
 abbrev pub Read : Type 0 → Type 0
 Read A = Answer (A × List ℕ)
 

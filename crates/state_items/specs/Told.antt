@@ -2,7 +2,7 @@
 use Rattle.std.specs.Prelude.{◌≡◌, ℕ, List, Some}
 use Rattle.std.specs.Option.{option_map}
 use Rattle.geo_base.specs.declared.entry.Entry.{Entry}
-use Rattle.geo_base.specs.Sizes.{place_name}
+use Rattle.geo_base.specs.Sizes.{cluster_ref_name}
 use Rattle.state_items.specs.Origins.{origin_of}
 use Rattle.state_items.specs.Stored.{IsStored}
 use Rattle.state_items.specs.EntryTexts.{metadata_text, source_of}
@@ -15,7 +15,7 @@ use Rattle.frame_values.specs.Values.{targets_of}
 -- marker's canonical text.
 pub record IsTold (names : List (List ℕ)) (own : ℕ) (e : Entry) : Type 0 where
   pub to : e.to ≡ targets_of names e.meta.names
-  pub from : origin_of names own (option_map (place_name names) (source_of own e.ident.origin)) ≡ Some e.ident.origin
+  pub from : origin_of names own (option_map (cluster_ref_name names) (source_of own e.ident.origin)) ≡ Some e.ident.origin
   pub content : IsToldContent names e.content e.payload
 
 -- what the texts say is the entry

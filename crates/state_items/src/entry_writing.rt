@@ -8,7 +8,7 @@ ghost use Rattle.state_items.specs.EntryTexts.{AreShort, HasMetadata, HasTexts, 
 
 use crate::put_text;
 use frame_values::{canonical_payload, known_of};
-use geo_base::{Blob, ClusterName, Entry, Memory, Place};
+use geo_base::{Blob, ClusterName, ClusterRef, Entry, Memory};
 use std::alloc::Global;
 
 /// Appends an entry of the topic of a cluster: the text of its metadata, and its payload. A text of 2^32 bytes, whose length has no
@@ -86,12 +86,12 @@ fn metadata_text(
 }
 
 /// The cluster that an entry was replicated from, where it was.
-fn source_of(own: u32, origin: u32) -> Option<Place>
+fn source_of(own: u32, origin: u32) -> Option<ClusterRef>
     ensures { result ≡ source_of own origin }
 {
     if origin == own {
         None
     } else {
-        Some(Place::Known(origin))
+        Some(ClusterRef::Known(origin))
     }
 }

@@ -39,7 +39,7 @@ pub fn byte_at(bytes: &[u8]) -> Result<(u8, &[u8]), ItemFault>
     }
 }
 
-/// A length of four bytes, and so many bytes behind it.
+/// A length of four bytes, and so many bytes after it.
 #[tactic(auto, unfolding(crate::specs::Reading::text_at))]
 pub fn text_at(bytes: &[u8]) -> Result<(&[u8], &[u8]), ItemFault>
     ensures { Gives (λ x. (x.0.now, x.1.now)) result (text_at bytes.now) }

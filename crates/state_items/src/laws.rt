@@ -5,7 +5,7 @@ ghost use Rattle.state_items.specs.Ranges.{cursor_at};
 ghost use Rattle.state_items.specs.Reading.{number_at, text_at};
 ghost use Rattle.state_items.specs.Texts.{cursor, number, text};
 
-/// What was written is read again, whatever stands behind it.
+/// What was written is read again, whatever stands after it.
 #[tactic(auto, using(crate::proofs::Again::number_again, crate::proofs::Again::text_again, crate::proofs::Again::cursor_again))]
 pub fn items_read_back()
     ensures number { (n : ℕ) (rest : List ℕ) → n < 2 ^ 64 → number_at (number n ++ rest) ≡ Ok (n, rest) }

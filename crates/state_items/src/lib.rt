@@ -1,10 +1,10 @@
 //! The items that a state file is made of, written and read; and an entry of a topic as two texts, its metadata and its payload, and
 //! back.
 //!
-//! Reading goes from the front: a reader answers what an item says and the bytes behind it, or the first item that breaks a rule.
+//! Reading goes from the front: a reader answers what an item says and the bytes after it, or the first item that breaks a rule.
 //! `specs/Reading.antt` says it as functions of the bytes, `specs/Texts.antt` has the text of each item.
 //!
-//! The texts of an entry are those of a message in a frame (Pulsar's MessageMetadata, and the payload behind it). What a metadata says of
+//! The texts of an entry are those of a message in a frame (Pulsar's MessageMetadata, and the payload after it). What a metadata says of
 //! the cluster that stored the message first is told from the cluster that stores it now: `replicated_from` stands exactly where the two
 //! differ.
 #![tactic(auto)]

@@ -58,7 +58,7 @@ fn counted_ranges(
     Ok((ranges, rest))
 }
 
-/// The next range behind some.
+/// The next range after some.
 #[tactic(auto, unfolding(crate::specs::Ranges::range_at))]
 fn range_at<'a>(
     entries: u64,
@@ -102,7 +102,7 @@ fn cursor_of(alloc: Global, ranges: &[IndexRange], entries: u64) -> Result<Curso
     Ok(cursor)
 }
 
-/// The indexes of a range that lies behind all of a cursor.
+/// The indexes of a range that lies after all of a cursor.
 #[tactic(auto, using(crate::proofs::Gaps::none_more, crate::proofs::Gaps::one_more, crate::proofs::Gaps::below_more))]
 fn add_range(cursor: &mut Cursor, range: IndexRange, entries: u64) -> Result<(), Memory>
     requires behind { AreBelow range.first cursor.old.indexes }
@@ -116,7 +116,7 @@ fn add_range(cursor: &mut Cursor, range: IndexRange, entries: u64) -> Result<(),
     Ok(())
 }
 
-/// One index behind all of a cursor.
+/// One index after all of a cursor.
 #[tactic(auto, using(crate::proofs::Gaps::behind_all))]
 fn add_index(cursor: &mut Cursor, index: u64, entries: u64) -> Result<(), Memory>
     requires behind { AreBelow index cursor.old.indexes }

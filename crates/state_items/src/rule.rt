@@ -25,7 +25,7 @@ pub enum Rule {
     Count,
     /// A client's state fits the script.
     Client,
-    /// Nothing stands behind the last item.
+    /// Nothing stands after the last item.
     End,
 }
 

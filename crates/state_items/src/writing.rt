@@ -33,7 +33,7 @@ pub fn put_word(out: &mut Blob, n: u32) -> Result<(), Memory>
     out.append(&n.to_be_bytes())
 }
 
-/// Appends a text behind its length. A text of 2^32 bytes, whose length has no four bytes, counts as want of memory.
+/// Appends a text after its length. A text of 2^32 bytes, whose length has no four bytes, counts as want of memory.
 pub fn put_text(out: &mut Blob, content: &[u8]) -> Result<(), Memory>
     ensures text { OnOk result (out.new ≡ out.old ++ text content.now) }
     ensures short { OnOk result (length content.now < 2 ^ 32) }
@@ -78,7 +78,7 @@ fn put_ranges(out: &mut Blob, ranges: &RangeList) -> Result<(), Memory>
     put_each(out, ranges)
 }
 
-/// Appends ranges one behind the other.
+/// Appends ranges one after the other.
 fn put_each(out: &mut Blob, ranges: &RangeList) -> Result<(), Memory>
     ensures ok { OnOk result (out.new ≡ out.old ++ flat_map range ranges.now.list) }
     ensures err { OnErr result (take (length out.old) out.new ≡ out.old) }

@@ -8,7 +8,7 @@ use Rattle.geo_base.specs.declared.frame.SubKind.{SubKind}
 use Rattle.geo_base.specs.declared.frame.SubKind.TheVariants as kind
 use Rattle.geo_base.specs.Broker.{sub_named}
 use Rattle.geo_base.specs.Name.{is_name}
-use Rattle.geo_base.specs.Sender.{Sender}
+use Rattle.geo_base.specs.Replicator.{Replicator}
 use Rattle.geo_base.specs.Subscribing.{most_subs}
 use Rattle.geo_base.specs.Subscription.{Subscription}
 use Rattle.state_items.specs.declared.rule.Rule.TheVariants as rule
@@ -19,8 +19,8 @@ use Rattle.state_items.specs.Texts.{cursor, number, text}
 use Rattle.state_items.proofs.Again.{cursor_again, many_again, number_again, text_again, within_again}
 use Rattle.state_nodes.specs.declared.counts.Counts.{Counts}
 use Rattle.state_nodes.specs.Counts.{counts_at, counts_text}
-use Rattle.state_nodes.specs.Fitting.{AreCounts, AreSenders, AreSubs, IsPlace, IsSender, IsSub}
-use Rattle.state_nodes.specs.Senders.{place_at, sender_at, sender_text, senders_at, senders_from, senders_text}
+use Rattle.state_nodes.specs.Fitting.{AreCounts, AreReplicators, AreSubs, IsPlace, IsReplicator, IsSub}
+use Rattle.state_nodes.specs.Replicators.{place_at, replicator_at, replicator_text, replicators_at, replicators_from, replicators_text}
 use Rattle.state_nodes.specs.Subs.{byte_within, flag_byte, kind_byte, kind_of, name_at, seeks_at, sub_at, sub_text, subs_at, subs_text}
 use Rattle.state_nodes.proofs.Names.{name_short}
 
@@ -93,34 +93,34 @@ subs_again n lt ss rest h =
 
 -- ---- replicators
 
-sender_again : (n : ℕ) → n < 2 ^ 64 → (s : Sender) (rest : List ℕ) → IsSender n s → sender_at n (sender_text n s ++ rest) ≡ Ok (s, rest)
-unfolding sender_at
-sender_again n lt s rest h =
-    ap (sender_at n) (append_assoc (number s.session) (cursor n s.cursor) rest)
-    ∙ rw (within_again most_count s.session rule.Count (cursor n s.cursor ++ rest) h.session (omega (arith, h.session)), cursor_again n s.cursor rest lt h.acked) (ap (λ (x : Sender). Ok (x, rest)) h.restarted)
+replicator_again : (n : ℕ) → n < 2 ^ 64 → (s : Replicator) (rest : List ℕ) → IsReplicator n s → replicator_at n (replicator_text n s ++ rest) ≡ Ok (s, rest)
+unfolding replicator_at
+replicator_again n lt s rest h =
+    ap (replicator_at n) (append_assoc (number s.session) (cursor n s.cursor) rest)
+    ∙ rw (within_again most_count s.session rule.Count (cursor n s.cursor ++ rest) h.session (omega (arith, h.session)), cursor_again n s.cursor rest lt h.acked) (ap (λ (x : Replicator). Ok (x, rest)) h.restarted)
 
 -- the text of a place
-abbrev place_text : ℕ → ℕ → ℕ → Sender → List ℕ
-place_text n own y s = if y == own then [] else sender_text n s
+abbrev place_text : ℕ → ℕ → ℕ → Replicator → List ℕ
+place_text n own y s = if y == own then [] else replicator_text n s
 
-place_again : (n own : ℕ) → n < 2 ^ 64 → (before : List Sender) (s : Sender) (rest : List ℕ) → IsPlace n own before s → place_at n own before (place_text n own (length before) s ++ rest) ≡ Ok (s, rest)
+place_again : (n own : ℕ) → n < 2 ^ 64 → (before : List Replicator) (s : Replicator) (rest : List ℕ) → IsPlace n own before s → place_at n own before (place_text n own (length before) s ++ rest) ≡ Ok (s, rest)
 place_again n own lt before s rest (inl h) =
     let here : (length before == own) ≡ true = grind (arith, nat_tests, h.0) in
-    rw here (ap (λ (x : Sender). Ok (x, rest)) (sym h.1))
+    rw here (ap (λ (x : Replicator). Ok (x, rest)) (sym h.1))
 place_again n own lt before s rest (inr h) =
     let other : (length before == own) ≡ false = grind (arith, nat_tests, h.0) in
-    rw other (sender_again n lt s rest h.1)
+    rw other (replicator_again n lt s rest h.1)
 
-senders_again_from : (n own : ℕ) → n < 2 ^ 64 → (ss before : List Sender) (rest : List ℕ) → AllFit (IsPlace n own) before ss → many (place_at n own) (length ss) before (senders_from n own (length before) ss ++ rest) ≡ Ok (before ++ ss, rest)
+replicators_again_from : (n own : ℕ) → n < 2 ^ 64 → (ss before : List Replicator) (rest : List ℕ) → AllFit (IsPlace n own) before ss → many (place_at n own) (length ss) before (replicators_from n own (length before) ss ++ rest) ≡ Ok (before ++ ss, rest)
 unfolding many
-senders_again_from n own lt [] before rest h = ap (λ (xs : List Sender). Ok (xs, rest)) (sym (append-nil before))
-senders_again_from n own lt (s ∷ ss) before rest h =
+replicators_again_from n own lt [] before rest h = ap (λ (xs : List Replicator). Ok (xs, rest)) (sym (append-nil before))
+replicators_again_from n own lt (s ∷ ss) before rest h =
     let len : length before + 1 ≡ length (before ++ s ∷ []) = omega (arith, length-append before (s ∷ [])) in
-    let regrouped : senders_from n own (length before) (s ∷ ss) ++ rest ≡ place_text n own (length before) s ++ (senders_from n own (length (before ++ s ∷ [])) ss ++ rest) =
-    append_assoc (place_text n own (length before) s) (senders_from n own (length before + 1) ss) rest
-    ∙ ap (λ (y : ℕ). place_text n own (length before) s ++ (senders_from n own y ss ++ rest)) len in
+    let regrouped : replicators_from n own (length before) (s ∷ ss) ++ rest ≡ place_text n own (length before) s ++ (replicators_from n own (length (before ++ s ∷ [])) ss ++ rest) =
+    append_assoc (place_text n own (length before) s) (replicators_from n own (length before + 1) ss) rest
+    ∙ ap (λ (y : ℕ). place_text n own (length before) s ++ (replicators_from n own y ss ++ rest)) len in
     ap (λ (b : List ℕ). many (place_at n own) (suc (length ss)) before b) regrouped
-    ∙ rw (place_again n own lt before s (senders_from n own (length (before ++ s ∷ [])) ss ++ rest) h.0) (senders_again_from n own lt ss (before ++ s ∷ []) rest h.1 ∙ ap (λ (xs : List Sender). Ok (xs, rest)) (append_assoc before (s ∷ []) ss))
+    ∙ rw (place_again n own lt before s (replicators_from n own (length (before ++ s ∷ [])) ss ++ rest) h.0) (replicators_again_from n own lt ss (before ++ s ∷ []) rest h.1 ∙ ap (λ (xs : List Replicator). Ok (xs, rest)) (append_assoc before (s ∷ []) ss))
 
-pub senders_again : (n own : ℕ) → n < 2 ^ 64 → (ss : List Sender) (rest : List ℕ) → AreSenders n own ss → senders_at n own (length ss) (senders_text n own ss ++ rest) ≡ Ok (ss, rest)
-senders_again n own lt ss rest h = senders_again_from n own lt ss [] rest h
+pub replicators_again : (n own : ℕ) → n < 2 ^ 64 → (ss : List Replicator) (rest : List ℕ) → AreReplicators n own ss → replicators_at n own (length ss) (replicators_text n own ss ++ rest) ≡ Ok (ss, rest)
+replicators_again n own lt ss rest h = replicators_again_from n own lt ss [] rest h

@@ -1,14 +1,14 @@
 -- What is known of a client that was read.
-use Rattle.std.proofs.Common.{◌≡◌, ℕ, ◌-◌, ◌<◌, ◌≤◌, ◌==◌, nat_lt, Bool, true, false, List, [], length, Ok, refl, sym, subst}
+use Rattle.std.proofs.Common.{◌≡◌, ℕ, ◌-◌, ◌<◌, ◌≤◌, ◌==◌, nat_lt, Bool, true, List, [], length, Ok, refl, sym, subst}
 use Rattle.std.specs.Prelude.{nat_le, Option, ◌&&◌, ◌||◌, not, is_some}
 use Rattle.std.specs.Str.{is_utf8}
-use Rattle.std.proofs.lemmas.Bool.{leb-true, ltb-true, false≢true}
+use Rattle.std.proofs.lemmas.Bool.{leb-true, ltb-true}
 use Rattle.geo_base.specs.declared.client.Line.{Line}
 use Rattle.geo_base.specs.declared.entry.Ident.{Ident}
 use Rattle.geo_base.specs.Client.{Client}
 use Rattle.geo_base.specs.Going.{most_unanswered}
 use Rattle.geo_base.specs.Scripted.{is_produce}
-use Rattle.state_nodes.specs.declared.clients.Place.{Place}
+use Rattle.state_nodes.specs.declared.clients.ClientProgress.{ClientProgress}
 use Rattle.state_nodes.specs.declared.clients.Tally.{Tally}
 use Rattle.state_nodes.specs.declared.force.Force.{Force}
 use Rattle.state_nodes.specs.Clients.{client_at, force_at, ident_at, index_at, index_of, is_done, is_flow, is_in_force, is_pub, is_sub, place_at, publish_at, tally_at, unanswered_at}
@@ -19,28 +19,21 @@ use Rattle.state_items.specs.Fitting.{AllFit}
 use Rattle.state_items.specs.Limits.{most_count}
 use Rattle.state_items.specs.Reading.{judge, list_at, number_at, number_within, text_at}
 use Rattle.state_items.proofs.Known.{came, judged, list_known, listed_all, listed_count, many_known, same_value, within_known}
+use Rattle.geo_base.proofs.Bools.{and_first, and_second}
 
-first_of : (a b : Bool) → (a && b) ≡ true → a ≡ true
-first_of true b h = refl
-first_of false b h = absurd (false≢true h)
-
-second_of : (a b : Bool) → (a && b) ≡ true → b ≡ true
-second_of true b h = h
-second_of false b h = absurd (false≢true h)
-
-record IsKnownPlace (clusters : ℕ) (lines : List Line) (p : Place) : Type 0 where
+record IsKnownPlace (clusters : ℕ) (lines : List Line) (p : ClientProgress) : Type 0 where
   pub cluster : p.cluster < clusters
   pub connection : p.connection ≤ most_count
   pub done : p.done ≤ length lines
 
-place_known : (clusters : ℕ) (lines : List Line) (bytes : List ℕ) (x : Place × List ℕ) → place_at clusters lines bytes ≡ Ok x → IsKnownPlace clusters lines x.0
+place_known : (clusters : ℕ) (lines : List Line) (bytes : List ℕ) (x : ClientProgress × List ℕ) → place_at clusters lines bytes ≡ Ok x → IsKnownPlace clusters lines x.0
 unfolding place_at
 place_known clusters lines bytes x h =
     let a = came (number_at bytes) _ x h in
     let b = came (judge (nat_lt a.first.0 clusters) bytes rule.Client) _ x a.next in
     let c = came (number_within most_count rule.Count a.first.1) _ x b.next in
     let d = came (number_within (length lines) rule.Client c.first.1) _ x c.next in
-    subst (λ (y : Place × List ℕ). IsKnownPlace clusters lines y.0) (same_value _ x d.next) (record {
+    subst (λ (y : ClientProgress × List ℕ). IsKnownPlace clusters lines y.0) (same_value _ x d.next) (record {
       cluster = ltb-true a.first.0 clusters (judged _ bytes rule.Client b.first b.is);
       connection = within_known most_count rule.Count a.first.1 c.first c.is;
       done = within_known (length lines) rule.Client c.first.1 d.first d.is;
@@ -95,8 +88,8 @@ unanswered_known lines done produce bytes x h =
     let all = many_known (publish_at lines done) (IsPublish lines done) (publish_known lines done) n [] a.first.1 x b.next in
     let same = sym (listed_count (IsPublish lines done) n x.0 all) in
     record {
-      window = subst (λ (k : ℕ). k ≤ most_unanswered) same (leb-true n most_unanswered (first_of _ _ few));
-      publishes = subst (λ (k : ℕ). ((k == 0) || is_some produce) ≡ true) same (second_of (nat_le n most_unanswered) _ few);
+      window = subst (λ (k : ℕ). k ≤ most_unanswered) same (leb-true n most_unanswered (and_first _ _ few));
+      publishes = subst (λ (k : ℕ). ((k == 0) || is_some produce) ≡ true) same (and_second (nat_le n most_unanswered) _ few);
       each = listed_all (IsPublish lines done) n x.0 all;
     }
 

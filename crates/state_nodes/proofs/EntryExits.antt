@@ -12,7 +12,7 @@ use Rattle.state_items.specs.Reading.{Fails, Read, broken, text_at}
 use Rattle.state_items.specs.Telling.{Many, Tells, TellsFault, goes, stops}
 use Rattle.state_items.proofs.Many as told
 use Rattle.state_nodes.specs.declared.heading.Heading.{Heading}
-use Rattle.state_nodes.specs.Book.{EntryList}
+use Rattle.state_nodes.specs.TopicSoFar.{EntryList}
 use Rattle.state_nodes.specs.Entries.{AreEntries, IsEntry, IsHeading, IsPayload, IsSized, ident_of, is_next, sized}
 
 small : (names : List (List ℕ)) (h : Heading) (item payload rest : List ℕ) (e : Entry) → IsStored names h.meta h.origin payload e → nat_le (entry_size names e) most_entry_size ≡ true → IsSized names h item payload rest (Ok (e, rest))
@@ -68,30 +68,30 @@ next_told own before h (Err e) next is = tt
 
 -- ---- entries one after the other
 
--- each answer of what is left behind the book's entries is one of all
-pub record EntriesGo (names : List (List ℕ)) (own count i : ℕ) (book : EntryList) (bytes whole : List ℕ) : Type 0 where
-  pub own_same : book.own ≡ own
-  pub goes_on : (answer : Read (List Entry)) → Many (IsEntry names own) (count - i) book.entries bytes answer → AreEntries names own count whole answer
+-- each answer of what is left after the topic_so_far's entries is one of all
+pub record EntriesGo (names : List (List ℕ)) (own count i : ℕ) (topic_so_far : EntryList) (bytes whole : List ℕ) : Type 0 where
+  pub own_same : topic_so_far.own ≡ own
+  pub goes_on : (answer : Read (List Entry)) → Many (IsEntry names own) (count - i) topic_so_far.entries bytes answer → AreEntries names own count whole answer
 
-pub entries_begin : (names : List (List ℕ)) (own count : ℕ) (book : EntryList) (bytes : List ℕ) → book ≡ record { own = own; entries = [] } → EntriesGo names own count 0 book bytes bytes
-entries_begin names own count book bytes e =
+pub entries_begin : (names : List (List ℕ)) (own count : ℕ) (topic_so_far : EntryList) (bytes : List ℕ) → topic_so_far ≡ record { own = own; entries = [] } → EntriesGo names own count 0 topic_so_far bytes bytes
+entries_begin names own count topic_so_far bytes e =
     subst (λ (b : EntryList). EntriesGo names own count 0 b bytes bytes) (sym e) (record { own_same = refl; goes_on = λ answer h. told.begins (IsEntry names own) count bytes answer h })
 
-pub entry_more : (names : List (List ℕ)) (own count i : ℕ) (book new : EntryList) (bytes after whole : List ℕ) (e : Entry) → i < count → new ≡ record { own = book.own; entries = book.entries ++ e ∷ [] } → IsEntry names book.own book.entries bytes (Ok (e, after))
-    → EntriesGo names own count i book bytes whole → EntriesGo names own count (i + 1) new after whole
-entry_more names own count i book new bytes after whole e lt pushed h so_far =
-    let here : IsEntry names own book.entries bytes (Ok (e, after)) = subst (λ (o : ℕ). IsEntry names o book.entries bytes (Ok (e, after))) so_far.own_same h in
+pub entry_more : (names : List (List ℕ)) (own count i : ℕ) (topic_so_far new : EntryList) (bytes after whole : List ℕ) (e : Entry) → i < count → new ≡ record { own = topic_so_far.own; entries = topic_so_far.entries ++ e ∷ [] } → IsEntry names topic_so_far.own topic_so_far.entries bytes (Ok (e, after))
+    → EntriesGo names own count i topic_so_far bytes whole → EntriesGo names own count (i + 1) new after whole
+entry_more names own count i topic_so_far new bytes after whole e lt pushed h so_far =
+    let here : IsEntry names own topic_so_far.entries bytes (Ok (e, after)) = subst (λ (o : ℕ). IsEntry names o topic_so_far.entries bytes (Ok (e, after))) so_far.own_same h in
     subst (λ (b : EntryList). EntriesGo names own count (i + 1) b after whole) (sym pushed) (record {
       own_same = so_far.own_same;
-      goes_on = told.goes_on (IsEntry names own) count i book.entries (book.entries ++ e ∷ []) bytes e after (AreEntries names own count whole) lt refl here so_far.goes_on;
+      goes_on = told.goes_on (IsEntry names own) count i topic_so_far.entries (topic_so_far.entries ++ e ∷ []) bytes e after (AreEntries names own count whole) lt refl here so_far.goes_on;
     })
 
-pub entry_ends : (names : List (List ℕ)) (own count i : ℕ) (book : EntryList) (bytes whole : List ℕ) (e : ItemFault) → i < count → TellsFault e (IsEntry names book.own book.entries bytes) → EntriesGo names own count i book bytes whole → TellsFault e (AreEntries names own count whole)
-entry_ends names own count i book bytes whole e lt h so_far =
-    let here : TellsFault e (IsEntry names own book.entries bytes) = subst (λ (o : ℕ). TellsFault e (IsEntry names o book.entries bytes)) so_far.own_same h in
-    told.ends (IsEntry names own) e count i book.entries bytes (AreEntries names own count whole) lt here so_far.goes_on
+pub entry_ends : (names : List (List ℕ)) (own count i : ℕ) (topic_so_far : EntryList) (bytes whole : List ℕ) (e : ItemFault) → i < count → TellsFault e (IsEntry names topic_so_far.own topic_so_far.entries bytes) → EntriesGo names own count i topic_so_far bytes whole → TellsFault e (AreEntries names own count whole)
+entry_ends names own count i topic_so_far bytes whole e lt h so_far =
+    let here : TellsFault e (IsEntry names own topic_so_far.entries bytes) = subst (λ (o : ℕ). TellsFault e (IsEntry names o topic_so_far.entries bytes)) so_far.own_same h in
+    told.ends (IsEntry names own) e count i topic_so_far.entries bytes (AreEntries names own count whole) lt here so_far.goes_on
 
-pub entries_done : (names : List (List ℕ)) (own count i : ℕ) (book : EntryList) (items : List Entry) (bytes whole : List ℕ) → count ≤ i → items ≡ book.entries → EntriesGo names own count i book bytes whole → AreEntries names own count whole (Ok (items, bytes))
-entries_done names own count i book items bytes whole le same so_far =
+pub entries_done : (names : List (List ℕ)) (own count i : ℕ) (topic_so_far : EntryList) (items : List Entry) (bytes whole : List ℕ) → count ≤ i → items ≡ topic_so_far.entries → EntriesGo names own count i topic_so_far bytes whole → AreEntries names own count whole (Ok (items, bytes))
+entries_done names own count i topic_so_far items bytes whole le same so_far =
     subst (λ (xs : List Entry). AreEntries names own count whole (Ok (xs, bytes))) (sym same)
-    (told.is_done (IsEntry names own) count i book.entries bytes (AreEntries names own count whole) le so_far.goes_on)
+    (told.is_done (IsEntry names own) count i topic_so_far.entries bytes (AreEntries names own count whole) le so_far.goes_on)

@@ -9,7 +9,7 @@ use Rattle.geo_base.specs.declared.entry.Entry.{Entry}
 use Rattle.geo_base.specs.declared.entry.Ident.{Ident}
 use Rattle.geo_base.specs.Broker.{sub_named}
 use Rattle.geo_base.specs.Name.{is_name}
-use Rattle.geo_base.specs.Sender.{Sender, new_sender}
+use Rattle.geo_base.specs.Replicator.{Replicator, new_replicator}
 use Rattle.geo_base.specs.Sizes.{entry_size, most_entry_size}
 use Rattle.geo_base.specs.Subscribing.{most_subs}
 use Rattle.geo_base.specs.Subscription.{Subscription}
@@ -25,10 +25,11 @@ use Rattle.state_nodes.specs.declared.counts.Counts.{Counts}
 use Rattle.state_nodes.specs.declared.heading.Heading.{Heading}
 use Rattle.state_nodes.specs.Counts.{counts_at}
 use Rattle.state_nodes.specs.Entries.{IsEntry, IsHeading, IsPayload, IsSized, Says, headed, ident_of, is_next, nothing, something, with_origin}
-use Rattle.state_nodes.specs.Fitting.{AreCounts, AreSenders, AreSubs, IsPlace, IsSender, IsSub}
+use Rattle.state_nodes.specs.Fitting.{AreCounts, AreReplicators, AreSubs, IsPlace, IsReplicator, IsSub}
 use Rattle.state_nodes.specs.Known.{IsKnownEntry}
-use Rattle.state_nodes.specs.Senders.{place_at, sender_at, senders_at}
+use Rattle.state_nodes.specs.Replicators.{place_at, replicator_at, replicators_at}
 use Rattle.state_nodes.specs.Subs.{byte_within, most_kind, name_at, seeks_at, sub_at, subs_at}
+use Rattle.geo_base.proofs.Bools.{and_first, and_second}
 
 -- ---- entries
 
@@ -110,14 +111,6 @@ seeks_known version bytes x h = by (version == 1) h
     by true e = subst (λ (y : ℕ × List ℕ). y.0 ≤ most_count) (same_value (0, bytes) x e) (omega arith)
     by false e = within_known most_count rule.Count bytes x e
 
-first_of : (a b : Bool) → (a && b) ≡ true → a ≡ true
-first_of true b h = refl
-first_of false b h = absurd (false≢true h)
-
-second_of : (a b : Bool) → (a && b) ≡ true → b ≡ true
-second_of true b h = h
-second_of false b h = absurd (false≢true h)
-
 none_there : (o : Option Subscription) → is_none o ≡ true → o ≡ None
 none_there None h = refl
 none_there (Some s) h = absurd (false≢true h)
@@ -133,8 +126,8 @@ sub_known version n before bytes x h =
     let named = named_known before bytes a.first a.is in
     let free = is_none (sub_named before a.first.0) in
     subst (λ (y : Subscription × List ℕ). IsSub n before y.0) (same_value _ x e.next) (record {
-      name = first_of (is_name a.first.0) free named;
-      new = none_there (sub_named before a.first.0) (second_of (is_name a.first.0) free named);
+      name = and_first (is_name a.first.0) free named;
+      new = none_there (sub_named before a.first.0) (and_second (is_name a.first.0) free named);
       acked = cursor_known n c.first.1 d.first d.is;
       seeks = seeks_known version d.first.1 e.first e.is;
       at_rest = refl;
@@ -153,30 +146,30 @@ subs_known version n bytes x h =
 
 -- ---- replicators
 
-sender_known : (n : ℕ) (bytes : List ℕ) (x : Sender × List ℕ) → sender_at n bytes ≡ Ok x → IsSender n x.0
-unfolding sender_at
-sender_known n bytes x h =
+replicator_known : (n : ℕ) (bytes : List ℕ) (x : Replicator × List ℕ) → replicator_at n bytes ≡ Ok x → IsReplicator n x.0
+unfolding replicator_at
+replicator_known n bytes x h =
     let a = came (number_within most_count rule.Count bytes) _ x h in
     let b = came (cursor_at n a.first.1) _ x a.next in
-    subst (λ (y : Sender × List ℕ). IsSender n y.0) (same_value _ x b.next) (record {
+    subst (λ (y : Replicator × List ℕ). IsReplicator n y.0) (same_value _ x b.next) (record {
       session = within_known most_count rule.Count bytes a.first a.is;
       acked = cursor_known n a.first.1 b.first b.is;
       restarted = refl;
     })
 
-place_known : (n own : ℕ) (before : List Sender) (bytes : List ℕ) (x : Sender × List ℕ) → place_at n own before bytes ≡ Ok x → IsPlace n own before x.0
+place_known : (n own : ℕ) (before : List Replicator) (bytes : List ℕ) (x : Replicator × List ℕ) → place_at n own before bytes ≡ Ok x → IsPlace n own before x.0
 place_known n own before bytes x h = by (length before == own) refl h
   where
-    by : (b : Bool) → (length before == own) ≡ b → (if b then Ok (new_sender, bytes) else sender_at n bytes) ≡ Ok x → IsPlace n own before x.0
-    by true is e = inl (eqb-true (length before) own is, ap (λ (y : Sender × List ℕ). y.0) (sym (same_value (new_sender, bytes) x e)))
-    by false is e = inr (λ same. false≢true (sym is ∙ eq-eqb (length before) own same), sender_known n bytes x e)
+    by : (b : Bool) → (length before == own) ≡ b → (if b then Ok (new_replicator, bytes) else replicator_at n bytes) ≡ Ok x → IsPlace n own before x.0
+    by true is e = inl (eqb-true (length before) own is, ap (λ (y : Replicator × List ℕ). y.0) (sym (same_value (new_replicator, bytes) x e)))
+    by false is e = inr (λ same. false≢true (sym is ∙ eq-eqb (length before) own same), replicator_known n bytes x e)
 
-pub record AllSenders (n own clusters : ℕ) (ss : List Sender) : Type 0 where
+pub record AllReplicators (n own clusters : ℕ) (ss : List Replicator) : Type 0 where
   pub count : length ss ≡ clusters
-  pub each : AreSenders n own ss
+  pub each : AreReplicators n own ss
 
-pub senders_known : (n own clusters : ℕ) (bytes : List ℕ) (x : List Sender × List ℕ) → senders_at n own clusters bytes ≡ Ok x → AllSenders n own clusters x.0
-senders_known n own clusters bytes x h =
+pub replicators_known : (n own clusters : ℕ) (bytes : List ℕ) (x : List Replicator × List ℕ) → replicators_at n own clusters bytes ≡ Ok x → AllReplicators n own clusters x.0
+replicators_known n own clusters bytes x h =
     let all = many_known (place_at n own) (IsPlace n own) (place_known n own) clusters [] bytes x h in
     record { count = listed_count (IsPlace n own) clusters x.0 all; each = listed_all (IsPlace n own) clusters x.0 all }
 
@@ -195,8 +188,8 @@ counts_known bytes x h =
     let few = judged _ a.first.1 rule.Count c.first c.is in
     subst (λ (y : Counts × List ℕ). AreCounts y.0) (same_value _ x e.next) (record {
       events = within_known most_count rule.Count bytes a.first a.is;
-      idle = leb-true b.first.0 most_count (first_of idle run few);
-      run = leb-true (a.first.0 + b.first.0) most_events (second_of idle run few);
+      idle = leb-true b.first.0 most_count (and_first idle run few);
+      run = leb-true (a.first.0 + b.first.0) most_events (and_second idle run few);
       rounds = within_known most_count rule.Count b.first.1 d.first d.is;
       sent = within_known most_sent_bytes rule.Count d.first.1 e.first e.is;
     })

@@ -23,9 +23,9 @@ use Rattle.state_nodes.specs.Entries.{AreEntries, IsEntry, IsHeading, IsPayload,
 use Rattle.state_nodes.specs.Fitting.{IsDurable, IsNextEntry}
 use Rattle.state_nodes.specs.Ledgers.{entry_count, ledgers_at, ledgers_text, length_at}
 use Rattle.state_nodes.specs.Nodes.{IsNode, behind_entries, counted_ledgers_at, node_text, shares_at}
-use Rattle.state_nodes.specs.Senders.{senders_text}
+use Rattle.state_nodes.specs.Replicators.{replicators_text}
 use Rattle.state_nodes.specs.Subs.{subs_text}
-use Rattle.state_nodes.proofs.Back.{senders_again, subs_again}
+use Rattle.state_nodes.proofs.Back.{replicators_again, subs_again}
 use Rattle.frame_values.specs.Texts.{payload_text}
 
 -- ---- an entry
@@ -75,17 +75,17 @@ ledgers_again per names own b rest h =
     ∙ rw (number_again (length b.ledgers) (flat_map number b.ledgers ++ (number (length b.entries) ++ rest)) h.ledgers_few, opened, again.many_again (length_at per) number (λ before l. l ≤ per) (length_again per h.per_ledger) b.ledgers [] (number (length b.entries) ++ rest) h.ledgers, number_again (length b.entries) rest h.few, together) refl
 
 behind_again : (per : ℕ) (names : List (List ℕ)) (own : ℕ) (b : Broker) (rest : List ℕ) → IsDurable per names own b
-    → behind_entries 2 own (length names) b.ledgers b.entries (subs_text (length b.entries) b.subs ++ (senders_text (length b.entries) own b.senders ++ rest)) ≡ Ok (b, rest)
+    → behind_entries 2 own (length names) b.ledgers b.entries (subs_text (length b.entries) b.subs ++ (replicators_text (length b.entries) own b.replicators ++ rest)) ≡ Ok (b, rest)
 unfolding behind_entries shares_at
 behind_again per names own b rest h =
-    rw (← h.all_senders, subs_again (length b.entries) h.few b.subs (senders_text (length b.entries) own b.senders ++ rest) h.subs, senders_again (length b.entries) own h.few b.senders rest h.senders) (ap (λ (x : Broker). Ok (x, rest)) h.durable)
+    rw (← h.all_replicators, subs_again (length b.entries) h.few b.subs (replicators_text (length b.entries) own b.replicators ++ rest) h.subs, replicators_again (length b.entries) own h.few b.replicators rest h.replicators) (ap (λ (x : Broker). Ok (x, rest)) h.durable)
 
 pub node_again : (per : ℕ) (names : List (List ℕ)) (own : ℕ) (b : Broker) (rest : List ℕ) → IsDurable per names own b → IsNode 2 per names own (node_text names own b ++ rest) (Ok (b, rest))
 node_again per names own b rest h =
     let es : List ℕ = flat_map (entry_text names own) b.entries in
     let n : List ℕ = number (length b.entries) in
     let ss : List ℕ = subs_text (length b.entries) b.subs in
-    let rs : List ℕ = senders_text (length b.entries) own b.senders in
+    let rs : List ℕ = replicators_text (length b.entries) own b.replicators in
     let left : List ℕ = es ++ (ss ++ (rs ++ rest)) in
     let inner : ((n ++ es) ++ (ss ++ rs)) ++ rest ≡ n ++ left =
     append_assoc (n ++ es) (ss ++ rs) rest ∙ append_assoc n es ((ss ++ rs) ++ rest) ∙ ap (λ (x : List ℕ). n ++ (es ++ x)) (append_assoc ss rs rest) in

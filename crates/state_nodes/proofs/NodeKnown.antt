@@ -4,7 +4,7 @@ use Rattle.std.specs.List.{sum}
 use Rattle.std.proofs.lemmas.Bool.{eqb-true, ltb-true}
 use Rattle.geo_base.specs.declared.entry.Entry.{Entry}
 use Rattle.geo_base.specs.Broker.{Broker}
-use Rattle.geo_base.specs.Sender.{Sender}
+use Rattle.geo_base.specs.Replicator.{Replicator}
 use Rattle.geo_base.specs.Subscription.{Subscription}
 use Rattle.state_items.specs.declared.rule.Rule.TheVariants as rule
 use Rattle.state_items.specs.Fitting.{AllFit}
@@ -16,9 +16,9 @@ use Rattle.state_nodes.specs.Fitting.{AreSubs}
 use Rattle.state_nodes.specs.Known.{IsKnownEntry, IsKnownNode}
 use Rattle.state_nodes.specs.Ledgers.{entry_count, ledgers_at, length_at}
 use Rattle.state_nodes.specs.Nodes.{IsNode, behind_entries, counted_ledgers_at, shares_at}
-use Rattle.state_nodes.specs.Senders.{senders_at}
+use Rattle.state_nodes.specs.Replicators.{replicators_at}
 use Rattle.state_nodes.specs.Subs.{subs_at}
-use Rattle.state_nodes.proofs.Known.{AllSenders, entry_known, senders_known, subs_known}
+use Rattle.state_nodes.proofs.Known.{AllReplicators, entry_known, replicators_known, subs_known}
 
 record AreKnownLedgers (per : ℕ) (ls : List ℕ) : Type 0 where
   pub opened : 0 < length ls
@@ -56,17 +56,17 @@ counted_known per bytes x h =
     let b = came (entry_count a.first.0 a.first.1) _ x a.next in
     subst (λ (y : (List ℕ × ℕ) × List ℕ). AreCounted per y.0.0 y.0.1) (same_value _ x b.next) (record { ledgers = ledgers_known per bytes a.first a.is; together = count_known a.first.0 a.first.1 b.first b.is })
 
-record AreShares (own clusters n : ℕ) (vs : List Subscription) (ss : List Sender) : Type 0 where
+record AreShares (own clusters n : ℕ) (vs : List Subscription) (ss : List Replicator) : Type 0 where
   pub subs : AreSubs n vs
-  pub senders : AllSenders n own clusters ss
+  pub replicators : AllReplicators n own clusters ss
 
-shares_known : (version own clusters n : ℕ) (bytes : List ℕ) (x : (List Subscription × List Sender) × List ℕ) → shares_at version own clusters n bytes ≡ Ok x → AreShares own clusters n x.0.0 x.0.1
+shares_known : (version own clusters n : ℕ) (bytes : List ℕ) (x : (List Subscription × List Replicator) × List ℕ) → shares_at version own clusters n bytes ≡ Ok x → AreShares own clusters n x.0.0 x.0.1
 unfolding shares_at
 shares_known version own clusters n bytes x h =
     let a = came (subs_at version n bytes) _ x h in
-    let b = came (senders_at n own clusters a.first.1) _ x a.next in
-    subst (λ (y : (List Subscription × List Sender) × List ℕ). AreShares own clusters n y.0.0 y.0.1) (same_value _ x b.next)
-    (record { subs = subs_known version n bytes a.first a.is; senders = senders_known n own clusters a.first.1 b.first b.is })
+    let b = came (replicators_at n own clusters a.first.1) _ x a.next in
+    subst (λ (y : (List Subscription × List Replicator) × List ℕ). AreShares own clusters n y.0.0 y.0.1) (same_value _ x b.next)
+    (record { subs = subs_known version n bytes a.first a.is; replicators = replicators_known n own clusters a.first.1 b.first b.is })
 
 behind_known : (version per : ℕ) (names : List (List ℕ)) (own : ℕ) (ledgers : List ℕ) (entries : List Entry) (bytes : List ℕ) (x : Broker × List ℕ) → AreCounted per ledgers (length entries)
     → AllFit (IsKnownEntry names own) [] entries → behind_entries version own (length names) ledgers entries bytes ≡ Ok x → IsKnownNode per names own x.0
@@ -80,8 +80,8 @@ behind_known version per names own ledgers entries bytes x counted each h =
       together = counted.together;
       entries = each;
       subs = shares.subs;
-      all_senders = shares.senders.count;
-      senders = shares.senders.each;
+      all_replicators = shares.replicators.count;
+      replicators = shares.replicators.each;
       durable = refl;
     })
 

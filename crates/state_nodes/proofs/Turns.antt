@@ -1,4 +1,4 @@
--- What tells whether one more entry may stand behind others.
+-- What tells whether one more entry may stand after others.
 use Rattle.std.proofs.Common.{◌≡◌, ℕ, ◌==◌, Bool, true, false, List, [], ◌∷◌, ◌++◌, refl, sym, ap, subst, ◌∙◌, arith}
 use Rattle.std.specs.Prelude.{Option, Some, ◌&&◌, ◌↔◌}
 use Rattle.std.specs.Str.{bytes_eq}
@@ -13,8 +13,9 @@ use Rattle.topic_store.specs.declared.stream.Stream.{Stream}
 use Rattle.topic_store.specs.Table.{Row, Table, Tells, noted, stream_of, verdict}
 use Rattle.topic_store.proofs.Tells.{tells_new}
 use Rattle.durable_parts.proofs.Markers.{next_marker-push}
-use Rattle.state_nodes.specs.Book.{TellsLast, is_new, is_turn, last_with}
+use Rattle.state_nodes.specs.TopicSoFar.{TellsLast, is_new, is_turn, last_with}
 use Rattle.state_nodes.specs.Entries.{is_in_turn, is_next}
+use Rattle.geo_base.proofs.Bools.{both_true}
 
 new_then : (v : Verdict) (b : Bool) → ((v ≡ judged.New) ↔ (b ≡ true)) → is_new v ≡ b
 new_then judged.New b h = sym (h.0 refl)
@@ -36,13 +37,8 @@ other_turn own es i m is not_so =
     let other : ((i.origin == own) && bytes_eq i.producer marker_producer) ≡ false = sym is ∙ not_so in
     rw other refl
 
-both : (a b : Bool) → (a && b) ≡ true → (a ≡ true) × (b ≡ true)
-both true true h = (refl, refl)
-both true false h = absurd cc
-both false b h = absurd cc
-
 pub new_is : (own : ℕ) (es : List Entry) (i : Ident) (rows : List Row) → Tells rows es → is_next own es i ≡ true → verdict rows (stream_of i) i.seq ≡ judged.New
-new_is own es i rows h e = (h.at i).1 (both (accepts es i) (is_in_turn own es i) e).0
+new_is own es i rows h e = (h.at i).1 (both_true (accepts es i) (is_in_turn own es i) e).0
 
 pub tells_push : (own : ℕ) (es : List Entry) (e : Entry) (rows : List Row) → Tells rows es → is_next own es e.ident ≡ true → Tells (noted rows (stream_of e.ident) e.ident.seq) (es ++ e ∷ [])
 tells_push own es e rows h n = tells_new rows es e h (new_is own es e.ident rows h n)
@@ -54,7 +50,7 @@ in_turn own es e m h =
 
 marked : (own : ℕ) (es : List Entry) (e : Entry) → is_next own es e.ident ≡ true → is_own_marker own e ≡ true → TellsLast own (es ++ e ∷ []) (Some e.ident.seq)
 marked own es e n m =
-    let seq : e.ident.seq ≡ next_marker own es = in_turn own es e m (both (accepts es e.ident) (is_in_turn own es e.ident) n).1 in
+    let seq : e.ident.seq ≡ next_marker own es = in_turn own es e m (both_true (accepts es e.ident) (is_in_turn own es e.ident) n).1 in
     next_marker-push own es e ∙ rw m (omega (arith, seq))
 
 unmarked : (own : ℕ) (es : List Entry) (e : Entry) (last : Option ℕ) → TellsLast own es last → is_own_marker own e ≡ false → TellsLast own (es ++ e ∷ []) last
@@ -64,7 +60,7 @@ pub last_push : (own : ℕ) (es : List Entry) (e : Entry) (last new : Option ℕ
 last_push own es e last new true h n is e' = subst (λ (l : Option ℕ). TellsLast own (es ++ e ∷ []) l) (sym e') (marked own es e n (sym is))
 last_push own es e last new false h n is e' = subst (λ (l : Option ℕ). TellsLast own (es ++ e ∷ []) l) (sym e') (unmarked own es e last h (sym is))
 
--- what a book keeps, after one more entry
+-- what a topic_so_far keeps, after one more entry
 pub push_kept : (own : ℕ) (es room new : List Entry) (e : Entry) (rows before : List Row) (t : Table) (spare : ℕ) (stream : Stream) (last after : Option ℕ) (m : Bool) → Tells rows es → TellsLast own es last → is_next own es e.ident ≡ true
     → before ≡ rows → stream ≡ stream_of e.ident → t ≡ record { rows = noted before stream e.ident.seq; room = spare } → room ≡ es → new ≡ room ++ e ∷ [] → m ≡ is_own_marker own e → after ≡ last_with m e.ident.seq last
     → Tells t.rows new × TellsLast own new after

@@ -11,7 +11,7 @@ use Rattle.geo_base.specs.Scripted.{is_produce}
 use Rattle.state_items.specs.declared.rule.Rule.TheVariants as rule
 use Rattle.state_items.specs.Reading.{◌>>=◌, Read, judge, list_at, many, number_at, number_within, text_at}
 use Rattle.state_items.specs.Texts.{list, number, text}
-use Rattle.state_nodes.specs.declared.clients.Place.{Place}
+use Rattle.state_nodes.specs.declared.clients.ClientProgress.{ClientProgress}
 use Rattle.state_nodes.specs.declared.clients.Tally.{Tally}
 use Rattle.state_nodes.specs.declared.force.Force.{Force}
 use Rattle.state_nodes.specs.declared.force.LineKind.{LineKind}
@@ -60,7 +60,7 @@ client_text k = place_text k ++ (force_text k ++ (list number k.unanswered ++ (t
 
 -- ---- reading
 
-unfoldable pub place_at : ℕ → List Line → List ℕ → Read Place
+unfoldable pub place_at : ℕ → List Line → List ℕ → Read ClientProgress
 place_at clusters lines bytes = do
   cluster ← number_at bytes
   there ← judge (nat_lt cluster.0 clusters) bytes rule.Client
@@ -123,7 +123,7 @@ ident_at clusters before bytes = do
   seq ← number_at producer.1
   Ok (record { origin = origin.0; producer = producer.0; seq = seq.0 }, seq.1)
 
-abbrev pub client_with : Place → Force → List ℕ → Tally → List Ident → Client
+abbrev pub client_with : ClientProgress → Force → List ℕ → Tally → List Ident → Client
 client_with p f unanswered t got = record {
   cluster = p.cluster;
   connection = p.connection;

@@ -59,7 +59,7 @@ pub record IsSized (names : List (List ℕ)) (h : Heading) (item payload rest : 
 abbrev pub IsPayload : List (List ℕ) → Heading → List ℕ → Read Entry → Type 0
 IsPayload names h bytes answer = Then (λ r. r ≡ text_at bytes) (λ p r. IsSized names h bytes p.0 p.1 r) answer
 
--- an entry behind others
+-- an entry after others
 abbrev pub IsEntry : List (List ℕ) → ℕ → List Entry → List ℕ → Read Entry → Type 0
 IsEntry names own before bytes answer =
     Then (λ r. r ≡ text_at bytes) (λ t r. Then (IsHeading names own before bytes t.0) (λ h q. IsPayload names h t.1 q) r) answer

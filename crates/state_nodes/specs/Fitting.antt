@@ -8,7 +8,7 @@ use Rattle.geo_base.specs.Broker.{Broker, sub_named}
 use Rattle.geo_base.specs.Name.{is_name}
 use Rattle.geo_base.specs.Run.{most_events, most_sent_bytes}
 use Rattle.geo_base.specs.Sizes.{entry_size, most_entry_size}
-use Rattle.geo_base.specs.Sender.{Sender, new_sender, sender_restarted}
+use Rattle.geo_base.specs.Replicator.{Replicator, new_replicator, replicator_restarted}
 use Rattle.geo_base.specs.Subscribing.{most_subs}
 use Rattle.geo_base.specs.Subscription.{Subscription, cleared}
 use Rattle.state_items.specs.Fitting.{AllFit, IsCursor}
@@ -25,7 +25,7 @@ pub record AreCounts (c : Counts) : Type 0 where
   pub rounds : c.rounds ≤ most_count
   pub sent : c.frame_bytes ≤ most_sent_bytes
 
--- a subscription behind others, with nothing in memory
+-- a subscription after others, with nothing in memory
 pub record IsSub (n : ℕ) (before : List Subscription) (s : Subscription) : Type 0 where
   pub name : is_name s.name ≡ true
   pub new : sub_named before s.name ≡ None
@@ -38,19 +38,19 @@ pub record AreSubs (n : ℕ) (ss : List Subscription) : Type 0 where
   pub each : AllFit (IsSub n) [] ss
 
 -- a replicator with nothing in memory
-pub record IsSender (n : ℕ) (s : Sender) : Type 0 where
+pub record IsReplicator (n : ℕ) (s : Replicator) : Type 0 where
   pub session : s.session ≤ most_count
   pub acked : IsCursor n s.cursor
-  pub restarted : sender_restarted s ≡ s
+  pub restarted : replicator_restarted s ≡ s
 
--- behind others; the place of the own cluster is unused
-abbrev pub IsPlace : ℕ → ℕ → List Sender → Sender → Type 0
-IsPlace n own before s = ((length before ≡ own) × (s ≡ new_sender)) ⊎ ((length before ≢ own) × IsSender n s)
+-- after others; the place of the own cluster is unused
+abbrev pub IsPlace : ℕ → ℕ → List Replicator → Replicator → Type 0
+IsPlace n own before s = ((length before ≡ own) × (s ≡ new_replicator)) ⊎ ((length before ≢ own) × IsReplicator n s)
 
-abbrev pub AreSenders : ℕ → ℕ → List Sender → Type 0
-AreSenders n own ss = AllFit (IsPlace n own) [] ss
+abbrev pub AreReplicators : ℕ → ℕ → List Replicator → Type 0
+AreReplicators n own ss = AllFit (IsPlace n own) [] ss
 
--- an entry of the cluster own behind others
+-- an entry of the cluster own after others
 pub record IsNextEntry (names : List (List ℕ)) (own : ℕ) (before : List Entry) (e : Entry) : Type 0 where
   pub texts : HasTexts names own e
   pub told : IsTold names own e
@@ -69,6 +69,6 @@ pub record IsDurable (per : ℕ) (names : List (List ℕ)) (own : ℕ) (b : Brok
   pub together : sum b.ledgers ≡ length b.entries
   pub entries : AllFit (IsNextEntry names own) [] b.entries
   pub subs : AreSubs (length b.entries) b.subs
-  pub all_senders : length b.senders ≡ length names
-  pub senders : AreSenders (length b.entries) own b.senders
-  pub durable : broker_with b.ledgers b.entries b.subs b.senders ≡ b
+  pub all_replicators : length b.replicators ≡ length names
+  pub replicators : AreReplicators (length b.entries) own b.replicators
+  pub durable : broker_with b.ledgers b.entries b.subs b.replicators ≡ b

@@ -9,10 +9,10 @@ use Rattle.geo_base.specs.Sizes.{entry_size, most_entry_size}
 use Rattle.message_meta.specs.Metadata.{IsMetaText, Metadata}
 use Rattle.state_items.specs.Fitting.{AllFit}
 use Rattle.state_nodes.specs.Entries.{is_next}
-use Rattle.state_nodes.specs.Fitting.{AreSenders, AreSubs}
+use Rattle.state_nodes.specs.Fitting.{AreReplicators, AreSubs}
 use Rattle.state_nodes.specs.Nodes.{broker_with}
 
--- an entry of the cluster own behind others: it is that of some metadata's text and a payload, and passed all tests of one
+-- an entry of the cluster own after others: it is that of some metadata's text and a payload, and passed all tests of one
 pub record IsKnownEntry (names : List (List ℕ)) (own : ℕ) (before : List Entry) (e : Entry) : Type 0 where
   pub meta : Metadata
   pub text : List ℕ
@@ -30,6 +30,6 @@ pub record IsKnownNode (per : ℕ) (names : List (List ℕ)) (own : ℕ) (b : Br
   pub together : sum b.ledgers ≡ length b.entries
   pub entries : AllFit (IsKnownEntry names own) [] b.entries
   pub subs : AreSubs (length b.entries) b.subs
-  pub all_senders : length b.senders ≡ length names
-  pub senders : AreSenders (length b.entries) own b.senders
-  pub durable : broker_with b.ledgers b.entries b.subs b.senders ≡ b
+  pub all_replicators : length b.replicators ≡ length names
+  pub replicators : AreReplicators (length b.entries) own b.replicators
+  pub durable : broker_with b.ledgers b.entries b.subs b.replicators ≡ b

@@ -1,9 +1,9 @@
 pub mod Counts
 pub mod Subs
-pub mod Senders
+pub mod Replicators
 pub mod Ledgers
 pub mod Entries
-pub mod Book
+pub mod TopicSoFar
 pub mod Nodes
 pub mod Writing
 pub mod Fitting

@@ -2,24 +2,24 @@
 use Rattle.std.specs.Prelude.{◌≡◌, ℕ, List, [], ◌++◌, length, None, Ok}
 use Rattle.geo_base.specs.declared.entry.Entry.{Entry}
 use Rattle.geo_base.specs.Broker.{Broker}
-use Rattle.geo_base.specs.Sender.{Sender}
+use Rattle.geo_base.specs.Replicator.{Replicator}
 use Rattle.geo_base.specs.Subscription.{Subscription}
 use Rattle.state_items.specs.EntryTexts.{entry_text}
 use Rattle.state_items.specs.Reading.{◌>>=◌, Read}
 use Rattle.state_items.specs.Telling.{Then}
 use Rattle.state_items.specs.Texts.{list}
-use Rattle.state_nodes.specs.declared.nodes.NodeParts.{NodeParts}
+use Rattle.state_nodes.specs.declared.brokers.NodeParts.{NodeParts}
 use Rattle.state_nodes.specs.Entries.{AreEntries}
 use Rattle.state_nodes.specs.Ledgers.{entry_count, ledgers_at, ledgers_text}
-use Rattle.state_nodes.specs.Senders.{senders_at, senders_text}
+use Rattle.state_nodes.specs.Replicators.{replicators_at, replicators_text}
 use Rattle.state_nodes.specs.Subs.{subs_at, subs_text}
 
 -- a broker that knows of no other one and of no client
-abbrev pub broker_with : List ℕ → List Entry → List Subscription → List Sender → Broker
-broker_with ledgers entries subs senders = record {
+abbrev pub broker_with : List ℕ → List Entry → List Subscription → List Replicator → Broker
+broker_with ledgers entries subs replicators = record {
   entries = entries;
   ledgers = ledgers;
-  senders = senders;
+  replicators = replicators;
   receivers = [];
   subs = subs;
   sessions = [];
@@ -29,7 +29,7 @@ broker_with ledgers entries subs senders = record {
 abbrev pub node_text : List (List ℕ) → ℕ → Broker → List ℕ
 node_text names own b =
     ledgers_text b.ledgers
-    ++ (list (entry_text names own) b.entries ++ (subs_text (length b.entries) b.subs ++ senders_text (length b.entries) own b.senders))
+    ++ (list (entry_text names own) b.entries ++ (subs_text (length b.entries) b.subs ++ replicators_text (length b.entries) own b.replicators))
 
 -- ---- reading
 
@@ -40,12 +40,12 @@ counted_ledgers_at per bytes = do
   count ← entry_count lengths.0 lengths.1
   Ok ((lengths.0, count.0), count.1)
 
--- subscriptions and replicators, behind n entries
-unfoldable pub shares_at : ℕ → ℕ → ℕ → ℕ → List ℕ → Read (List Subscription × List Sender)
+-- subscriptions and replicators, after n entries
+unfoldable pub shares_at : ℕ → ℕ → ℕ → ℕ → List ℕ → Read (List Subscription × List Replicator)
 shares_at version own clusters n bytes = do
   subs ← subs_at version n bytes
-  senders ← senders_at n own clusters subs.1
-  Ok ((subs.0, senders.0), senders.1)
+  replicators ← replicators_at n own clusters subs.1
+  Ok ((subs.0, replicators.0), replicators.1)
 
 unfoldable pub behind_entries : ℕ → ℕ → ℕ → List ℕ → List Entry → List ℕ → Read Broker
 behind_entries version own clusters ledgers entries bytes = do
@@ -61,4 +61,4 @@ IsNode version per names own bytes answer =
 
 -- the parts of a broker
 abbrev pub broker_of : NodeParts → Broker
-broker_of p = broker_with p.ledgers.items p.entries.items p.subs p.senders
+broker_of p = broker_with p.ledgers.items p.entries.items p.subs p.replicators

@@ -63,7 +63,7 @@ seeks_at version bytes = if version == 1 then Ok (0, bytes) else number_within m
 abbrev pub with_name : List ℕ → Nameless → Subscription
 with_name name s = record (new_subscription name s.kind s.replicated s.cursor.indexes) { seeks = s.seeks }
 
--- what stands behind a name, and the subscription of that name
+-- what stands after a name, and the subscription of that name
 abbrev pub behind_name : ℕ → ℕ → List ℕ → List ℕ → Read Subscription
 behind_name version n name bytes = do
   kind ← byte_within most_kind bytes

@@ -3,7 +3,7 @@ use Rattle.std.specs.Prelude.{List, length}
 use Rattle.std.specs.List.{All}
 use Rattle.geo_base.specs.declared.entry.Entry.{Entry}
 use Rattle.geo_base.specs.Broker.{Broker}
-use Rattle.geo_base.specs.Sender.{Sender}
+use Rattle.geo_base.specs.Replicator.{Replicator}
 use Rattle.geo_base.specs.Subscription.{Subscription}
 use Rattle.cursor_acks.specs.Acks.{AreBelow}
 use Rattle.message_meta.specs.Known.{IsRest}
@@ -16,4 +16,4 @@ HaveRests es = All (λ (e : Entry). IsRest e.meta.rest) es
 pub record CanWrite (b : Broker) : Type 0 where
   pub entries : HaveRests b.entries
   pub subs : All (λ (s : Subscription). AreBelow (length b.entries) s.cursor) b.subs
-  pub senders : All (λ (s : Sender). AreBelow (length b.entries) s.cursor) b.senders
+  pub replicators : All (λ (s : Replicator). AreBelow (length b.entries) s.cursor) b.replicators

@@ -6,7 +6,7 @@ ghost use Rattle.state_nodes.specs.Clients.{client_at, client_text};
 ghost use Rattle.state_nodes.specs.ClientFitting.{IsClientState};
 ghost use Rattle.state_nodes.specs.ClientKnown.{IsKnownClient};
 
-/// What was written is read again, whatever stands behind it.
+/// What was written is read again, whatever stands after it.
 #[tactic(auto, using(crate::proofs::ClientBack::client_again))]
 pub fn clients_read_back()
     ensures { (clusters : ℕ) (lines : List Line) (k : Client) (rest : List ℕ) → IsClientState clusters lines k → client_at clusters lines (client_text k ++ rest) ≡ Ok (k, rest) }

@@ -39,7 +39,7 @@ fn put_force(out: &mut Blob, state: &ClientState) -> Result<(), Memory>
     put_index(out, state.flow)
 }
 
-/// A line's index and one more, 0 where there is none. An index behind which there is no number counts as want of memory.
+/// A line's index and one more, 0 where there is none. An index after which there is no number counts as want of memory.
 fn put_index(out: &mut Blob, index: Option<usize>) -> Result<(), Memory>
     ensures ok { OnOk result (out.new ≡ out.old ++ index_text index) }
     ensures err { OnErr result (out.new ≡ out.old) }

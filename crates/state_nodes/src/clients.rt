@@ -14,7 +14,7 @@ use std::alloc::Global;
 
 /// Where a client is, which connection was its last, and how many of its lines are done.
 #[derive(Clone, Copy, Drop)]
-pub(crate) struct Place {
+pub(crate) struct ClientProgress {
     pub(crate) cluster: u32,
     pub(crate) connection: u64,
     pub(crate) done: usize,
@@ -64,14 +64,14 @@ fn place_at<'a>(
     clusters: u32,
     lines: &[Line],
     bytes: &'a [u8],
-) -> Result<(Place, &'a [u8]), ItemFault>
+) -> Result<(ClientProgress, &'a [u8]), ItemFault>
     ensures { Gives (λ x. (x.0, x.1.now)) result (place_at clusters lines.now bytes.now) }
 {
     let (cluster, rest) = number_at(bytes)?;
     judge(cluster < u64::from(clusters), bytes, Rule::Client)?;
     let (connection, rest) = number_within(rest, MOST_COUNT, Rule::Count)?;
     let (done, rest) = number_within(rest, lines.len() as u64, Rule::Client)?;
-    let place = Place {
+    let place = ClientProgress {
         cluster: cluster as u32,
         connection,
         done: done as usize,

@@ -4,7 +4,7 @@ ghost use Rattle.std.specs.List.{sum};
 ghost use Rattle.durable_parts.specs.Durable as restart;
 ghost use Rattle.state_nodes.specs.Nodes.{broker_of};
 
-use crate::nodes::NodeParts;
+use crate::brokers::NodeParts;
 use durable_parts::Durable;
 use geo_base::Memory;
 use std::alloc::Global;
@@ -22,14 +22,14 @@ impl NodeParts {
             own: _,
             store,
             subs,
-            senders,
+            replicators,
         } = durable;
         let (ledgers, entries) = store.into_parts(alloc)?;
         Ok(NodeParts {
             ledgers,
             entries,
             subs,
-            senders,
+            replicators,
         })
     }
 
@@ -45,14 +45,14 @@ impl NodeParts {
             ledgers,
             entries,
             subs,
-            senders,
+            replicators,
         } = self;
         let store = TopicLedger::from_parts(alloc, per_ledger, ledgers.as_slice(), entries)?;
         Ok(Durable {
             own,
             store,
             subs,
-            senders,
+            replicators,
         })
     }
 }

@@ -4,8 +4,8 @@ ghost use Rattle.state_items.specs.Reading.{text_at};
 ghost use Rattle.state_items.specs.Telling.{Tells};
 ghost use Rattle.state_nodes.specs.Entries.{AreEntries, IsEntry, IsPayload, ident_of, is_next};
 
-use crate::book::EntryBook;
 use crate::heading::{Heading, heading_of};
+use crate::topic_so_far::TopicSoFar;
 use frame_values::is_within_limit;
 use geo_base::limits::CLUSTERS;
 use geo_base::{Blob, ClusterName, Entry};
@@ -24,21 +24,21 @@ pub(crate) fn entries_at<'a>(
     requires { length names.now ≤ CLUSTERS }
     ensures { Tells (λ x. (x.0.items, x.1.now)) result (AreEntries names.now own count bytes.now) }
 {
-    let mut book = EntryBook::new(alloc, own);
+    let mut topic_so_far = TopicSoFar::new(alloc, own);
     let mut rest = bytes;
     for _ in 0..count {
-        let (entry, after) = entry_at(alloc, names, &book, rest)?;
-        book.push(alloc, entry)?;
+        let (entry, after) = entry_at(alloc, names, &topic_so_far, rest)?;
+        topic_so_far.push(alloc, entry)?;
         rest = after;
     }
-    Ok((book.into_entries(), rest))
+    Ok((topic_so_far.into_entries(), rest))
 }
 
 /// The next entry.
 fn entry_at<'a>(
     alloc: Global,
     names: &[ClusterName],
-    before: &EntryBook,
+    before: &TopicSoFar,
     bytes: &'a [u8],
 ) -> Result<(Entry, &'a [u8]), ItemFault>
     requires { length names.now ≤ CLUSTERS }

@@ -4,7 +4,7 @@ ghost use Rattle.state_items.specs.Origins.{origin_of};
 ghost use Rattle.state_items.specs.Telling.{Tells};
 ghost use Rattle.state_nodes.specs.Entries.{IsHeading, Says, ident_of, is_next};
 
-use crate::book::EntryBook;
+use crate::topic_so_far::TopicSoFar;
 use geo_base::limits::CLUSTERS;
 use geo_base::{ClusterName, Ident, Memory, ProducerName};
 use message_meta::{Meta, MetaFault};
@@ -36,7 +36,7 @@ impl Heading {
 pub(crate) fn heading_of(
     alloc: Global,
     names: &[ClusterName],
-    before: &EntryBook,
+    before: &TopicSoFar,
     item: &[u8],
     text: &[u8],
 ) -> Result<Heading, ItemFault>
@@ -63,8 +63,8 @@ pub(crate) fn heading_of(
     }
 }
 
-/// Whether the entry that metadata are of may stand behind those of a book.
-fn is_next(alloc: Global, before: &EntryBook, heading: &Heading) -> Result<bool, Memory>
+/// Whether the entry that metadata are of may stand after those of a topic_so_far.
+fn is_next(alloc: Global, before: &TopicSoFar, heading: &Heading) -> Result<bool, Memory>
     ensures { IfOk result (λ b. b ≡ is_next before.now.own before.now.entries (ident_of heading.now)) }
 {
     let ident = heading.ident(alloc)?;

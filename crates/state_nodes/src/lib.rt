@@ -4,7 +4,7 @@
 //! bytes call for: a list grows item by item, and each item has a byte at least.
 #![tactic(auto)]
 
-mod book;
+mod brokers;
 mod client_laws;
 mod client_writing;
 mod clients;
@@ -15,15 +15,15 @@ mod force;
 mod heading;
 mod laws;
 mod ledgers;
-mod nodes;
-mod senders;
+mod replicators;
 mod subs;
+mod topic_so_far;
 mod writing;
 
+pub use brokers::{NodeParts, node_at};
 pub use client_laws::{client_is_known, clients_read_back};
 pub use client_writing::put_client;
 pub use clients::client_at;
 pub use counts::{Counts, counts_at};
 pub use laws::{parts_are_known, parts_read_back};
-pub use nodes::{NodeParts, node_at};
 pub use writing::{put_counts, put_node};

@@ -101,7 +101,7 @@ fn named(name: SubName, part: Nameless) -> DurableSub
     }
 }
 
-/// What stands behind a subscription's name.
+/// What stands after a subscription's name.
 #[tactic(auto, unfolding(crate::specs::Subs::behind_name))]
 fn behind_name(
     alloc: Global,

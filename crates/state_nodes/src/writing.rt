@@ -1,22 +1,22 @@
 //! The parts of a state as texts.
 ghost use Rattle.std.specs.Prelude.{◌≡◌, ◌++◌, ◌∷◌, [], if◌then◌else◌, length, OnOk, OnErr, take};
 ghost use Rattle.std.specs.List.{All, flat_map};
-ghost use Rattle.geo_base.specs.Sender.{Sender};
+ghost use Rattle.geo_base.specs.Replicator.{Replicator};
 ghost use Rattle.geo_base.specs.Subscription.{Subscription};
 ghost use Rattle.cursor_acks.specs.Acks.{AreBelow};
 ghost use Rattle.state_items.specs.EntryTexts.{entry_text};
-ghost use Rattle.durable_parts.specs.Parts.{sender_of, senders_of, sub_of, subs_of};
+ghost use Rattle.durable_parts.specs.Parts.{replicator_of, replicators_of, sub_of, subs_of};
 ghost use Rattle.state_items.specs.Texts.{list, number, text};
 ghost use Rattle.state_nodes.specs.Counts.{counts_text};
 ghost use Rattle.state_nodes.specs.Ledgers.{ledgers_text};
 ghost use Rattle.state_nodes.specs.Nodes.{broker_of, node_text};
-ghost use Rattle.state_nodes.specs.Senders.{sender_text, senders_text};
+ghost use Rattle.state_nodes.specs.Replicators.{replicator_text, replicators_text};
 ghost use Rattle.state_nodes.specs.Subs.{flag_byte, kind_byte, sub_text, subs_text};
 ghost use Rattle.state_nodes.specs.Writing.{CanWrite, HaveRests};
 
+use crate::brokers::NodeParts;
 use crate::counts::Counts;
-use crate::nodes::NodeParts;
-use durable_parts::{DurableSender, DurableSub};
+use durable_parts::{DurableReplicator, DurableSub};
 use geo_base::{Blob, ClusterName, Entry, Memory, SubKind, SubName};
 use state_items::{put_byte, put_cursor, put_entry, put_number, put_text};
 use std::alloc::Global;
@@ -48,7 +48,7 @@ pub fn put_node(
     put_ledgers(out, node.ledgers.as_slice())?;
     put_entries(alloc, out, names, own, node.entries.as_slice())?;
     put_subs(out, count, node.subs.as_slice())?;
-    put_senders(out, count, own, node.senders.as_slice())
+    put_replicators(out, count, own, node.replicators.as_slice())
 }
 
 fn put_ledgers(out: &mut Blob, lengths: &[u64]) -> Result<(), Memory>
@@ -154,19 +154,19 @@ fn kind_byte(kind: SubKind) -> u8
 }
 
 /// The replicators in cluster order; the own cluster has none.
-#[tactic(auto, using(crate::proofs::Rows::senders_end))]
-fn put_senders(
+#[tactic(auto, using(crate::proofs::Rows::replicators_end))]
+fn put_replicators(
     out: &mut Blob,
     entries: u64,
     own: u32,
-    senders: &[DurableSender],
+    replicators: &[DurableReplicator],
 ) -> Result<(), Memory>
-    requires { All (λ (s : Sender). AreBelow entries s.cursor) (senders_of senders.now) }
-    ensures ok { OnOk result (out.new ≡ out.old ++ senders_text entries own (senders_of senders.now)) }
+    requires { All (λ (s : Replicator). AreBelow entries s.cursor) (replicators_of replicators.now) }
+    ensures ok { OnOk result (out.new ≡ out.old ++ replicators_text entries own (replicators_of replicators.now)) }
     ensures err { OnErr result (take (length out.old) out.new ≡ out.old) }
 {
-    for cluster in 0..senders.len() {
-        put_place(out, entries, cluster == own as usize, &senders[cluster])?;
+    for cluster in 0..replicators.len() {
+        put_place(out, entries, cluster == own as usize, &replicators[cluster])?;
     }
     Ok(())
 }
@@ -176,15 +176,15 @@ fn put_place(
     out: &mut Blob,
     entries: u64,
     is_own: bool,
-    sender: &DurableSender,
+    replicator: &DurableReplicator,
 ) -> Result<(), Memory>
-    requires { AreBelow entries sender.now.cursor.indexes }
-    ensures ok { OnOk result (out.new ≡ out.old ++ (if is_own then [] else sender_text entries (sender_of sender.now))) }
+    requires { AreBelow entries replicator.now.cursor.indexes }
+    ensures ok { OnOk result (out.new ≡ out.old ++ (if is_own then [] else replicator_text entries (replicator_of replicator.now))) }
     ensures err { OnErr result (take (length out.old) out.new ≡ out.old) }
 {
     if is_own {
         return Ok(());
     }
-    put_number(out, sender.session)?;
-    put_cursor(out, &sender.cursor, entries)
+    put_number(out, replicator.session)?;
+    put_cursor(out, &replicator.cursor, entries)
 }

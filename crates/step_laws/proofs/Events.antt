@@ -1,4 +1,4 @@
--- One event of the world: what is told of it, read by who kept the world before, gives the world behind it.
+-- One event of the world: what is told of it, read by who kept the world before, gives the world after it.
 use Rattle.std.proofs.Common.{◌≡◌, ℕ, zero, suc, ◌+◌, ◌*◌, ◌%◌, ◌<◌, ◌≤◌, Bool, true, false, List, [], ◌∷◌, length, refl, sym, ap, subst, ◌∙◌, inl, inr, ◌⊎◌, arith}
 use Rattle.std.specs.Prelude.{Option, Some, None, if◌then◌else◌, slice_index, slice_index_or, slice_set}
 use Rattle.std.proofs.lemmas.Bool.{cases_lt}
@@ -160,7 +160,7 @@ planned_node s w (event.Go c) p h = absurd (none_picked (in_range s (event.Go c)
 planned_node s w (event.Get c) p h = absurd (none_picked (in_range s (event.Get c)) p h)
 planned_node s w (event.Reconnect c) p h = absurd (none_picked (in_range s (event.Reconnect c)) p h)
 
--- the worlds behind events that are not idle, as they stand in `broker_does`, `client_does` and `broker_halts`
+-- the worlds after events that are not idle, as they stand in `broker_does`, `client_does` and `broker_halts`
 abbrev done_world : Setup → World → Planned → World
 done_world s w p =
     let n = node s p.topic p.cluster in

@@ -3,12 +3,12 @@ use Rattle.std.proofs.Common.{◌≡◌, ℕ, zero, suc, ◌+◌, ◌<◌, ◌�
 use Rattle.std.specs.Prelude.{Some, if◌then◌else◌, codes, slice_get, slice_index_or}
 use Rattle.std.specs.Str.{bytes_eq}
 use Rattle.std.proofs.lemmas.Option.{none-some, same_Some, slice_get-get_or, get_or_from_slice_get}
-use Rattle.geo_base.specs.Broker.{Broker, no_broker, sender_at}
+use Rattle.geo_base.specs.Broker.{Broker, no_broker, replicator_at}
 use Rattle.geo_base.specs.Client.{Client}
-use Rattle.geo_base.specs.Report.{broker_lines, client_line, client_lines, cluster_lines, got_line, sender_line, sender_lines, sub_line, topic_lines, words}
+use Rattle.geo_base.specs.Report.{broker_lines, client_line, client_lines, cluster_lines, got_line, replicator_line, replicator_lines, sub_line, topic_lines, words}
 use Rattle.geo_base.specs.Run.{run_from}
 use Rattle.geo_base.specs.Scripted.{AreDistinct}
-use Rattle.geo_base.specs.Sender.{Sender, new_sender}
+use Rattle.geo_base.specs.Replicator.{Replicator, new_replicator}
 use Rattle.geo_base.specs.Setup.{Declared, Setup, declared_at, nobody}
 use Rattle.geo_base.specs.Subscription.{Subscription}
 use Rattle.geo_base.specs.World.{World, broker_at, client_at, node, topic_at}
@@ -17,7 +17,7 @@ use Rattle.world_laws.proofs.Dispatching.SubFrames.{NamesApart}
 use Rattle.world_laws.proofs.Replicating.Effects.{Each}
 use Rattle.world_laws.proofs.Replicating.Sizes.{node_lt}
 use Rattle.world_laws.proofs.TopicOrder.Ledgers.{total}
-use Rattle.step_laws.specs.StepsFold.{IsBeginning, KeptBroker, KeptSub, LawStepsFold, broker_lines_kept, client_lines_kept, cluster_lines_kept, kept_broker, kept_clients, kept_of, kept_senders, kept_sub, lines_but, topic_lines_kept}
+use Rattle.step_laws.specs.StepsFold.{IsBeginning, KeptBroker, KeptSub, LawStepsFold, broker_lines_kept, client_lines_kept, cluster_lines_kept, kept_broker, kept_clients, kept_of, kept_replicators, kept_sub, lines_but, topic_lines_kept}
 use Rattle.step_laws.proofs.Events.{Begun, each_at, number_of}
 use Rattle.step_laws.proofs.Kept.{broker_place}
 use Rattle.step_laws.proofs.Nodes.{Sound}
@@ -66,7 +66,7 @@ begins s w h = record {
   each = each_of (Sound (length s.clusters)) no_broker w.brokers (λ i lt. record {
     numbered = record { some = h.some i lt; whole = total_is (broker_at w i).ledgers ∙ h.ledgers i lt };
     apart = apart_of (broker_at w i).subs (h.subs i lt);
-    senders = h.senders i lt;
+    replicators = h.replicators i lt;
   });
 }
 
@@ -74,7 +74,7 @@ begun_is : (s : Setup) (w : World) → Begun s w → IsBeginning s w
 begun_is s w h = record {
   brokers = h.brokers;
   clients = h.clients;
-  senders = λ i lt. (sound i lt).senders;
+  replicators = λ i lt. (sound i lt).replicators;
   some = λ i lt. (sound i lt).numbered.some;
   ledgers = λ i lt. sym (total_is (broker_at w i).ledgers) ∙ (sound i lt).numbered.whole;
   subs = λ i lt. distinct_of (broker_at w i).subs (sound i lt).apart;
@@ -85,32 +85,32 @@ begun_is s w h = record {
 
 -- ---- the lines of a report
 
-senders_lines : (own y : ℕ) (ns : List (List ℕ)) (b : Broker) (ss : List Sender) → length ss ≡ length ns → ((i : ℕ) → i < length ss → slice_index_or ss i new_sender ≡ sender_at b (y + i))
-    → lines_but own y (kept_senders own y ns b) ≡ sender_lines own y ns ss
-senders_lines own y [] b ss size at = refl
-senders_lines own y (n ∷ ns) b [] size at = absurd (omega (arith, size))
-senders_lines own y (n ∷ ns) b (q ∷ ss) size at =
-    by (own == y) (senders_lines own (y + 1) ns b ss (omega (arith, size)) (λ i lt. let more : y + suc i ≡ y + 1 + i = omega arith in at (suc i) (omega (arith, lt)) ∙ ap (sender_at b) more))
+replicators_lines : (own y : ℕ) (ns : List (List ℕ)) (b : Broker) (ss : List Replicator) → length ss ≡ length ns → ((i : ℕ) → i < length ss → slice_index_or ss i new_replicator ≡ replicator_at b (y + i))
+    → lines_but own y (kept_replicators own y ns b) ≡ replicator_lines own y ns ss
+replicators_lines own y [] b ss size at = refl
+replicators_lines own y (n ∷ ns) b [] size at = absurd (omega (arith, size))
+replicators_lines own y (n ∷ ns) b (q ∷ ss) size at =
+    by (own == y) (replicators_lines own (y + 1) ns b ss (omega (arith, size)) (λ i lt. let more : y + suc i ≡ y + 1 + i = omega arith in at (suc i) (omega (arith, lt)) ∙ ap (replicator_at b) more))
   where
-    here : sender_at b y ≡ q
-    here = let none : y ≡ y + 0 = omega arith in ap (sender_at b) none ∙ sym (at 0 (omega arith))
+    here : replicator_at b y ≡ q
+    here = let none : y ≡ y + 0 = omega arith in ap (replicator_at b) none ∙ sym (at 0 (omega arith))
 
-    by : (t : Bool) → lines_but own (y + 1) (kept_senders own (y + 1) ns b) ≡ sender_lines own (y + 1) ns ss
-        → (if t then lines_but own (y + 1) (kept_senders own (y + 1) ns b) else (if t then [] else sender_line n (sender_at b y)) ∷ lines_but own (y + 1) (kept_senders own (y + 1) ns b))
-        ≡ (if t then sender_lines own (y + 1) ns ss else sender_line n q ∷ sender_lines own (y + 1) ns ss)
+    by : (t : Bool) → lines_but own (y + 1) (kept_replicators own (y + 1) ns b) ≡ replicator_lines own (y + 1) ns ss
+        → (if t then lines_but own (y + 1) (kept_replicators own (y + 1) ns b) else (if t then [] else replicator_line n (replicator_at b y)) ∷ lines_but own (y + 1) (kept_replicators own (y + 1) ns b))
+        ≡ (if t then replicator_lines own (y + 1) ns ss else replicator_line n q ∷ replicator_lines own (y + 1) ns ss)
     by true ih = ih
-    by false ih = ap (λ (c : Sender). sender_line n c ∷ lines_but own (y + 1) (kept_senders own (y + 1) ns b)) here ∙ ap (λ (ls : List (List ℕ)). sender_line n q ∷ ls) ih
+    by false ih = ap (λ (c : Replicator). replicator_line n c ∷ lines_but own (y + 1) (kept_replicators own (y + 1) ns b)) here ∙ ap (λ (ls : List (List ℕ)). replicator_line n q ∷ ls) ih
 
 subs_lines : (b : Broker) (vs : List Subscription) → map (λ (v : KeptSub). v.line) (map (kept_sub b) vs) ≡ map (sub_line b) vs
 subs_lines b [] = refl
 subs_lines b (v ∷ vs) = ap (λ (ls : List (List ℕ)). sub_line b v ∷ ls) (subs_lines b vs)
 
-one_broker : (s : Setup) (x : ℕ) (b : Broker) → length b.senders ≡ length s.clusters → broker_lines_kept x (kept_broker s x b) ≡ broker_lines s.clusters x b
+one_broker : (s : Setup) (x : ℕ) (b : Broker) → length b.replicators ≡ length s.clusters → broker_lines_kept x (kept_broker s x b) ≡ broker_lines s.clusters x b
 one_broker s x b size =
     let entries = (kept_broker s x b).entries in
     ap (λ (ls : List (List ℕ)). entries ++ (ls ++ map (λ (v : KeptSub). v.line) (map (kept_sub b) b.subs)))
-    (senders_lines x 0 s.clusters b b.senders size (λ i lt. let none : i ≡ 0 + i = omega arith in ap (sender_at b) none))
-    ∙ ap (λ (ls : List (List ℕ)). entries ++ (sender_lines x 0 s.clusters b.senders ++ ls)) (subs_lines b b.subs)
+    (replicators_lines x 0 s.clusters b b.replicators size (λ i lt. let none : i ≡ 0 + i = omega arith in ap (replicator_at b) none))
+    ∙ ap (λ (ls : List (List ℕ)). entries ++ (replicator_lines x 0 s.clusters b.replicators ++ ls)) (subs_lines b b.subs)
 
 cluster_whole : (s : Setup) (w : World) (t x : ℕ) (topic : List ℕ) (ns : List (List ℕ)) → Begun s w → t < length s.topics → x + length ns ≤ length s.clusters
     → cluster_lines_kept s (kept_of s w) t topic x ns ≡ cluster_lines s w t topic x ns
@@ -122,7 +122,7 @@ cluster_whole s w t x topic (n ∷ ns) h there within =
     ap (λ (k : KeptBroker). line ∷ broker_lines_kept x k ++ cluster_lines_kept s (kept_of s w) t topic (x + 1) ns)
     (broker_place s 0 (node s t x) w.brokers at ∙ ap (λ (m : ℕ). kept_broker s m b) (number_of s t x lt))
     ∙ ap (λ (ls : List (List ℕ)). line ∷ ls ++ cluster_lines_kept s (kept_of s w) t topic (x + 1) ns)
-    (one_broker s x b (each_at (Sound (length s.clusters)) w.brokers (node s t x) no_broker h.each at).senders)
+    (one_broker s x b (each_at (Sound (length s.clusters)) w.brokers (node s t x) no_broker h.each at).replicators)
     ∙ ap (λ (ls : List (List ℕ)). line ∷ broker_lines s.clusters x b ++ ls) (cluster_whole s w t (x + 1) topic ns h there (omega (arith, within)))
 
 clients_whole : (s : Setup) (w : World) (t c : ℕ) (ds : List Declared) (ks : List Client) → length ks ≡ length ds

@@ -1,22 +1,22 @@
--- What a reader makes of the lines of entries and of senders that are told of a broker.
+-- What a reader makes of the lines of entries and of replicators that are told of a broker.
 use Rattle.std.proofs.Common.{◌≡◌, ℕ, suc, ◌+◌, ◌<◌, Bool, true, false, List, [], ◌∷◌, ◌++◌, length, map, drop, refl, sym, ap, ◌∙◌, ◌==◌, append_assoc, length-append, arith}
 use Rattle.std.specs.Prelude.{◌&&◌, if◌then◌else◌, slice_set, codes, decimal}
 use Rattle.std.proofs.lemmas.Bool.{eqb-true, false≢true}
 use Rattle.std.proofs.lemmas.List.{append-nil}
 use Rattle.std.proofs.Math.Seq.{drop-append_seam, set-append_seam}
-use Rattle.world_laws.proofs.Types.{Entry, Position, SenderState}
-use Rattle.world_laws.proofs.Types.sender_state
-use Rattle.geo_base.specs.Broker.{Broker, sender_at}
+use Rattle.world_laws.proofs.Types.{Entry, Position, ReplicatorState}
+use Rattle.world_laws.proofs.Types.replicator_state
+use Rattle.geo_base.specs.Broker.{Broker, replicator_at}
 use Rattle.geo_base.specs.Cursor.{mark}
-use Rattle.geo_base.specs.Report.{entry_line, entry_lines, sender_line, shown_state, words}
-use Rattle.geo_base.specs.Sender.{Sender}
+use Rattle.geo_base.specs.Report.{entry_line, entry_lines, replicator_line, shown_state, words}
+use Rattle.geo_base.specs.Replicator.{Replicator}
 use Rattle.geo_base.specs.Topic.{position_at}
 use Rattle.world_laws.proofs.Snapshotting.Hearing.{Stays}
 use Rattle.world_laws.proofs.Walks.Walk.{left, right}
-use Rattle.step_laws.specs.Steps.{ReportChange, NewEntry, SenderNow, new_entries, other_senders, same_sender, same_state}
-use Rattle.step_laws.specs.StepsFold.{KeptBroker, broker_reads, broker_reads_all, kept_senders}
+use Rattle.step_laws.specs.Steps.{ReportChange, NewEntry, ReplicatorNow, new_entries, other_replicators, same_replicator, same_state}
+use Rattle.step_laws.specs.StepsFold.{KeptBroker, broker_reads, broker_reads_all, kept_replicators}
 
--- one list of changes behind another
+-- one list of changes after another
 pub reads_both : (k : KeptBroker) (xs ys : List ReportChange) → broker_reads_all k (xs ++ ys) ≡ broker_reads_all (broker_reads_all k xs) ys
 reads_both k [] ys = refl
 reads_both k (c ∷ xs) ys = reads_both (broker_reads k c) xs ys
@@ -61,60 +61,60 @@ reads_entries names b a k stays is =
     let more = entry_lines names a.ledgers (length b.entries) (drop (length b.entries) a.entries) in
     reads_lines k more ∙ ap (λ (es : List (List ℕ)). record k { entries = es }) (ap (λ (r : List (List ℕ)). r ++ more) is ∙ all_lines names b a stays)
 
--- ---- senders
+-- ---- replicators
 
-state_is : (a b : SenderState) → same_state a b ≡ true → a ≡ b
-state_is sender_state.Closed sender_state.Closed h = refl
-state_is sender_state.Opening sender_state.Opening h = refl
-state_is sender_state.Open sender_state.Open h = refl
-state_is sender_state.Closed sender_state.Opening h = absurd (false≢true h)
-state_is sender_state.Closed sender_state.Open h = absurd (false≢true h)
-state_is sender_state.Opening sender_state.Closed h = absurd (false≢true h)
-state_is sender_state.Opening sender_state.Open h = absurd (false≢true h)
-state_is sender_state.Open sender_state.Closed h = absurd (false≢true h)
-state_is sender_state.Open sender_state.Opening h = absurd (false≢true h)
+state_is : (a b : ReplicatorState) → same_state a b ≡ true → a ≡ b
+state_is replicator_state.Closed replicator_state.Closed h = refl
+state_is replicator_state.Opening replicator_state.Opening h = refl
+state_is replicator_state.Open replicator_state.Open h = refl
+state_is replicator_state.Closed replicator_state.Opening h = absurd (false≢true h)
+state_is replicator_state.Closed replicator_state.Open h = absurd (false≢true h)
+state_is replicator_state.Opening replicator_state.Closed h = absurd (false≢true h)
+state_is replicator_state.Opening replicator_state.Open h = absurd (false≢true h)
+state_is replicator_state.Open replicator_state.Closed h = absurd (false≢true h)
+state_is replicator_state.Open replicator_state.Opening h = absurd (false≢true h)
 
--- the line of a sender says what is compared
-line_is : (n : List ℕ) (s q : Sender) → same_sender s q ≡ true → sender_line n s ≡ sender_line n q
+-- the line of a replicator says what is compared
+line_is : (n : List ℕ) (s q : Replicator) → same_replicator s q ≡ true → replicator_line n s ≡ replicator_line n q
 line_is n s q h =
-    let by : (i j : ℕ) (t u : SenderState) (m k : ℕ) → i ≡ j → t ≡ u → m ≡ k
+    let by : (i j : ℕ) (t u : ReplicatorState) (m k : ℕ) → i ≡ j → t ≡ u → m ≡ k
     → words (codes "sender" ∷ n ∷ codes "session" ∷ decimal i ∷ shown_state t ∷ codes "mark" ∷ decimal m ∷ [])
     ≡ words (codes "sender" ∷ n ∷ codes "session" ∷ decimal j ∷ shown_state u ∷ codes "mark" ∷ decimal k ∷ []) = λ i j t u m k e f g.
     ap (λ (x : ℕ). words (codes "sender" ∷ n ∷ codes "session" ∷ decimal x ∷ shown_state t ∷ codes "mark" ∷ decimal m ∷ [])) e
-    ∙ ap (λ (x : SenderState). words (codes "sender" ∷ n ∷ codes "session" ∷ decimal j ∷ shown_state x ∷ codes "mark" ∷ decimal m ∷ [])) f
+    ∙ ap (λ (x : ReplicatorState). words (codes "sender" ∷ n ∷ codes "session" ∷ decimal j ∷ shown_state x ∷ codes "mark" ∷ decimal m ∷ [])) f
     ∙ ap (λ (x : ℕ). words (codes "sender" ∷ n ∷ codes "session" ∷ decimal j ∷ shown_state u ∷ codes "mark" ∷ decimal x ∷ [])) g in
     by s.session q.session s.state q.state (mark s.cursor) (mark q.cursor)
     (eqb-true s.session q.session (left (s.session == q.session) _ (left ((s.session == q.session) && same_state s.state q.state) _ h)))
     (state_is s.state q.state (right (s.session == q.session) _ (left ((s.session == q.session) && same_state s.state q.state) _ h)))
     (eqb-true (mark s.cursor) (mark q.cursor) (right ((s.session == q.session) && same_state s.state q.state) _ h))
 
--- one sender's place, own where t, told where it is not the same
+-- one replicator's place, own where t, told where it is not the same
 one_place : (k : KeptBroker) (y : ℕ) (pre rest : List (List ℕ)) (t u : Bool) (before after : List ℕ) → length pre ≡ y → (u ≡ true → before ≡ after)
-    → k.senders ≡ pre ++ (if t then [] else before) ∷ rest
-    → broker_reads_all k (if t then [] else if u then [] else SenderNow y after ∷ []) ≡ record k { senders = pre ++ (if t then [] else after) ∷ rest }
-one_place k y pre rest true u before after at same is = ap (λ (ss : List (List ℕ)). record k { senders = ss }) is
+    → k.replicators ≡ pre ++ (if t then [] else before) ∷ rest
+    → broker_reads_all k (if t then [] else if u then [] else ReplicatorNow y after ∷ []) ≡ record k { replicators = pre ++ (if t then [] else after) ∷ rest }
+one_place k y pre rest true u before after at same is = ap (λ (ss : List (List ℕ)). record k { replicators = ss }) is
 one_place k y pre rest false true before after at same is =
-    ap (λ (ss : List (List ℕ)). record k { senders = ss }) (is ∙ ap (λ (l : List ℕ). pre ++ l ∷ rest) (same refl))
+    ap (λ (ss : List (List ℕ)). record k { replicators = ss }) (is ∙ ap (λ (l : List ℕ). pre ++ l ∷ rest) (same refl))
 one_place k y pre rest false false before after at same is =
-    ap (λ (ss : List (List ℕ)). record k { senders = ss })
+    ap (λ (ss : List (List ℕ)). record k { replicators = ss })
     (ap (λ (ss : List (List ℕ)). slice_set ss y after) is ∙ ap (λ (n : ℕ). slice_set (pre ++ before ∷ rest) n after) (sym at) ∙ set-append_seam pre before rest after)
 
-reads_senders_from : (own y : ℕ) (names : List (List ℕ)) (b a : Broker) (k : KeptBroker) (pre : List (List ℕ)) → length pre ≡ y
-    → k.senders ≡ pre ++ kept_senders own y names b
-    → broker_reads_all k (other_senders own y names b a) ≡ record k { senders = pre ++ kept_senders own y names a }
-reads_senders_from own y [] b a k pre at is = ap (λ (ss : List (List ℕ)). record k { senders = ss }) is
-reads_senders_from own y (n ∷ ns) b a k pre at is =
-    let s = sender_at b y in let q = sender_at a y in
-    let u = same_sender s q in
-    let here = if own == y then [] else if u then [] else SenderNow y (sender_line n q) ∷ [] in
-    let line = if own == y then [] else sender_line n q in
-    let k' = record k { senders = pre ++ line ∷ kept_senders own (y + 1) ns b } in
-    reads_both k here (other_senders own (y + 1) ns b a)
-    ∙ ap (λ (j : KeptBroker). broker_reads_all j (other_senders own (y + 1) ns b a)) (one_place k y pre (kept_senders own (y + 1) ns b) (own == y) u (sender_line n s) (sender_line n q) at (line_is n s q) is)
-    ∙ reads_senders_from own (y + 1) ns b a k' (pre ++ line ∷ []) (length-append pre (line ∷ []) ∙ ap (λ (m : ℕ). m + 1) at) (sym (append_assoc pre (line ∷ []) (kept_senders own (y + 1) ns b)))
-    ∙ ap (λ (ss : List (List ℕ)). record k { senders = ss }) (append_assoc pre (line ∷ []) (kept_senders own (y + 1) ns a))
+reads_replicators_from : (own y : ℕ) (names : List (List ℕ)) (b a : Broker) (k : KeptBroker) (pre : List (List ℕ)) → length pre ≡ y
+    → k.replicators ≡ pre ++ kept_replicators own y names b
+    → broker_reads_all k (other_replicators own y names b a) ≡ record k { replicators = pre ++ kept_replicators own y names a }
+reads_replicators_from own y [] b a k pre at is = ap (λ (ss : List (List ℕ)). record k { replicators = ss }) is
+reads_replicators_from own y (n ∷ ns) b a k pre at is =
+    let s = replicator_at b y in let q = replicator_at a y in
+    let u = same_replicator s q in
+    let here = if own == y then [] else if u then [] else ReplicatorNow y (replicator_line n q) ∷ [] in
+    let line = if own == y then [] else replicator_line n q in
+    let k' = record k { replicators = pre ++ line ∷ kept_replicators own (y + 1) ns b } in
+    reads_both k here (other_replicators own (y + 1) ns b a)
+    ∙ ap (λ (j : KeptBroker). broker_reads_all j (other_replicators own (y + 1) ns b a)) (one_place k y pre (kept_replicators own (y + 1) ns b) (own == y) u (replicator_line n s) (replicator_line n q) at (line_is n s q) is)
+    ∙ reads_replicators_from own (y + 1) ns b a k' (pre ++ line ∷ []) (length-append pre (line ∷ []) ∙ ap (λ (m : ℕ). m + 1) at) (sym (append_assoc pre (line ∷ []) (kept_replicators own (y + 1) ns b)))
+    ∙ ap (λ (ss : List (List ℕ)). record k { replicators = ss }) (append_assoc pre (line ∷ []) (kept_replicators own (y + 1) ns a))
 
--- who kept the senders' lines of b keeps those of a
-pub reads_senders : (own : ℕ) (names : List (List ℕ)) (b a : Broker) (k : KeptBroker) → k.senders ≡ kept_senders own 0 names b
-    → broker_reads_all k (other_senders own 0 names b a) ≡ record k { senders = kept_senders own 0 names a }
-reads_senders own names b a k is = reads_senders_from own 0 names b a k [] refl is
+-- who kept the replicators' lines of b keeps those of a
+pub reads_replicators : (own : ℕ) (names : List (List ℕ)) (b a : Broker) (k : KeptBroker) → k.replicators ≡ kept_replicators own 0 names b
+    → broker_reads_all k (other_replicators own 0 names b a) ≡ record k { replicators = kept_replicators own 0 names a }
+reads_replicators own names b a k is = reads_replicators_from own 0 names b a k [] refl is

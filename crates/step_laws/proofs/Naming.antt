@@ -1,5 +1,5 @@
 -- What an event does to the names of a topic's subscriptions: its first durable write may make one or take one away, and no other write of it
--- does. So a subscription that was there stays at its place, and a new one stands behind all others.
+-- does. So a subscription that was there stays at its place, and a new one stands after all others.
 use Rattle.std.proofs.Common.{◌≡◌, ℕ, zero, suc, Bool, true, false, List, [], ◌∷◌, ◌++◌, length, map, filter, take, not, refl, sym, ap, subst, ◌∙◌, arith}
 use Rattle.std.specs.Prelude.{Option, Some, None, if◌then◌else◌, is_some}
 use Rattle.std.specs.Str.{bytes_eq}
@@ -11,7 +11,7 @@ use Rattle.world_laws.proofs.Types.write
 use Rattle.geo_base.specs.Broker.{Broker, Site, changed, sub_named, written}
 use Rattle.geo_base.specs.Cache.{cached}
 use Rattle.geo_base.specs.Cursor.{below}
-use Rattle.geo_base.specs.Dispatcher.{given, passed_index}
+use Rattle.geo_base.specs.Dispatcher.{given, skipped_index}
 use Rattle.geo_base.specs.Plan.{Plan, all_changed, all_written, done}
 use Rattle.geo_base.specs.Planned.{Planned}
 use Rattle.geo_base.specs.Setup.{Setup}
@@ -29,7 +29,7 @@ KeepsNames (write.Create n kind replicated latest) = ⊥
 KeepsNames (write.Delete n) = ⊥
 KeepsNames w = Unit {0}
 
--- no write behind the first one makes or takes away a name
+-- no write after the first one makes or takes away a name
 abbrev pub NamesOnce : List Write → Type 0
 NamesOnce [] = Unit {0}
 NamesOnce (w ∷ ws) = Each KeepsNames ws
@@ -86,12 +86,12 @@ read_once h b y q (Reads.Counts i e id answer u v next response hears) = tt
 read_once h b y q (Reads.AsksAgain i e id answer u v next response hears) = (tt, tt)
 read_once h b y q (Reads.Completes i e id answer u v next response hears) = (tt, tt)
 read_once h b y q (Reads.CreatesAt i j e n remote next update none) = (tt, (tt, tt))
-read_once h b y q (Reads.PassesOver i j e n remote v ws next update some updates) = each_both KeepsNames ws _ (update_keeps h b _ ws updates) (tt, tt)
+read_once h b y q (Reads.ActsOnUpdate i j e n remote v ws next update some updates) = each_both KeepsNames ws _ (update_keeps h b _ ws updates) (tt, tt)
 
 offer_once : (h : Site) (b : Broker) (n : List ℕ) (q : Plan) → Offers h b n q → NamesOnce q.writes
 offer_once h b n q Offers.NothingToOffer = tt
 offer_once h b n q (Offers.Gives v i at e due data_ picked) = tt
-offer_once h b n q (Offers.PassesBy v i e ws due marker updates) = update_keeps h b _ ws updates
+offer_once h b n q (Offers.SkipsMarker v i e ws due marker updates) = update_keeps h b _ ws updates
 offer_once h b n q (Offers.Caches v i j e c ws due snapshot updates) = update_keeps h b _ ws updates
 
 snap_once : (h : Site) (b : Broker) (q : Plan) → Snaps h b q → NamesOnce q.writes
@@ -124,7 +124,7 @@ plans_name_once s w p (Shape.Offer t x n plan within offers) = offer_once _ _ _ 
 plans_name_once s w p (Shape.Seek t x n to plan within seeks) = seek_once _ _ _ to plan seeks
 plans_name_once s w p (Shape.Restart t x within) = tt
 
--- a stop behind some of the writes, which opens a ledger
+-- a stop after some of the writes, which opens a ledger
 pub stopped_once : (k : ℕ) (ws : List Write) → NamesOnce ws → NamesOnce (take k ws ++ write.Ledger ∷ [])
 stopped_once zero ws h = tt
 stopped_once (suc k) [] h = tt
@@ -135,7 +135,7 @@ stopped_once (suc k) (w ∷ ws) h = each_both KeepsNames (take k ws) (write.Ledg
     taken (suc n) [] g = tt
     taken (suc n) (v ∷ vs) g = (g.0, taken n vs g.1)
 
--- ---- the names behind writes and changes
+-- ---- the names after writes and changes
 
 abbrev pub names : List Subscription → List (List ℕ)
 names vs = map (λ (v : Subscription). v.name) vs
@@ -163,7 +163,7 @@ change_keeps : (b : Broker) (c : Change) → names (changed b c).subs ≡ names 
 change_keeps b (change.Attach n k) = names_at b n (attached k) (λ v. refl)
 change_keeps b (change.Detach c) = names_mapped (detached c) (λ v. refl) b.subs
 change_keeps b (change.Permit n c permits) = names_at b n (permitted c permits) (λ v. refl)
-change_keeps b (change.Passed n i) = names_at b n (passed_index i) (λ v. refl)
+change_keeps b (change.Skipped n i) = names_at b n (skipped_index i) (λ v. refl)
 change_keeps b (change.Given n i at) = names_at b n (given i at) (λ v. refl)
 change_keeps b (change.Cache n c) = names_at b n (λ s. record s { cache = cached s.cache c }) (λ v. refl)
 change_keeps b (change.Acked n) = names_at b n after_acks (λ v. refl)
@@ -175,7 +175,7 @@ changes_keep : (b : Broker) (cs : List Change) → names (all_changed b cs).subs
 changes_keep b [] = refl
 changes_keep b (c ∷ cs) = changes_keep (changed b c) cs ∙ change_keeps b c
 
--- what becomes of the names of vs: they stay, one stands behind them that none of them is, or one goes
+-- what becomes of the names of vs: they stay, one stands after them that none of them is, or one goes
 pub data Renamed (vs : List Subscription) : List (List ℕ) → Type 0 where
   Kept : (ns : List (List ℕ)) → ns ≡ names vs → Renamed vs ns
   Created : (n : List ℕ) (ns : List (List ℕ)) → sub_named vs n ≡ None → ns ≡ names vs ++ n ∷ [] → Renamed vs ns
@@ -209,7 +209,7 @@ first_names per b (write.Alter n kind replicated) = Renamed.Kept _ (write_keeps 
 first_names per b (write.Acks n is) = Renamed.Kept _ (write_keeps per b (write.Acks n is) tt)
 first_names per b (write.Seek n i) = Renamed.Kept _ (write_keeps per b (write.Seek n i) tt)
 first_names per b (write.Append e) = Renamed.Kept _ refl
-first_names per b (write.SenderAck y i) = Renamed.Kept _ refl
+first_names per b (write.ReplicatorAck y i) = Renamed.Kept _ refl
 first_names per b (write.SessionNumber y session) = Renamed.Kept _ refl
 first_names per b write.Ledger = Renamed.Kept _ refl
 

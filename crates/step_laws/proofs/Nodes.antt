@@ -5,16 +5,16 @@ use Rattle.std.specs.List.{list_any}
 use Rattle.std.proofs.lemmas.Bool.{eqb-true}
 use Rattle.std.proofs.lemmas.List.{append-nil, length-map, length-set, map-append}
 use Rattle.std.proofs.Math.Seq.{drop-append_seam}
-use Rattle.world_laws.proofs.Types.{Entry, Event, Frame, Held, Ident, Line, Packet, Place, Position, Write}
+use Rattle.world_laws.proofs.Types.{Entry, Event, Frame, Held, Ident, Line, Packet, ClusterRef, Position, Write}
 use Rattle.geo_base.specs.declared.change.Change.{Change as BrokerChange}
 use Rattle.world_laws.proofs.Types.change
 use Rattle.world_laws.proofs.Types.event
 use Rattle.world_laws.proofs.Types.frame
 use Rattle.world_laws.proofs.Types.line
-use Rattle.world_laws.proofs.Types.place
-use Rattle.world_laws.proofs.Types.sender_state
+use Rattle.world_laws.proofs.Types.cluster_ref
+use Rattle.world_laws.proofs.Types.replicator_state
 use Rattle.world_laws.proofs.Types.write
-use Rattle.geo_base.specs.Broker.{Broker, at_sender, changed, sender_at, sub_named, written}
+use Rattle.geo_base.specs.Broker.{Broker, at_replicator, changed, replicator_at, sub_named, written}
 use Rattle.geo_base.specs.Client.{Acted, Client}
 use Rattle.geo_base.specs.Getting.{answered, get, got_frame, got_message, is_duplicate, is_number, publishes, received, with_error, with_receipt}
 use Rattle.geo_base.specs.Going.{acks_all, acks_one, acks_to, first_held, go, go_line}
@@ -23,7 +23,7 @@ use Rattle.geo_base.specs.Cursor.{with_index}
 use Rattle.geo_base.specs.Happening.{client_acted}
 use Rattle.geo_base.specs.Plan.{Plan, all_changed, all_written, done, halted}
 use Rattle.geo_base.specs.Report.{client_line, got_line, words}
-use Rattle.geo_base.specs.Sender.{Sender, sender_reset, sender_restarted, sender_sent, without_number}
+use Rattle.geo_base.specs.Replicator.{Replicator, replicator_reset, replicator_restarted, replicator_sent, without_number}
 use Rattle.geo_base.specs.Setup.{Declared, Setup, declared_at}
 use Rattle.world_laws.proofs.OnceInOrder.Appends.{all_changed_entries}
 use Rattle.world_laws.proofs.Snapshotting.Answering.{Numbered, writes_steady}
@@ -32,20 +32,20 @@ use Rattle.world_laws.proofs.Dispatching.SubFrames.{NamesApart, done_apart}
 use Rattle.world_laws.proofs.Snapshotting.Hearing.{Stays}
 use Rattle.world_laws.proofs.Snapshotting.Making.{writes_stay}
 use Rattle.world_laws.proofs.Walks.Walk.{left, on_if, right}
-use Rattle.step_laws.specs.Steps.{ReportChange, ClientNow, NewGot, broker_changes, client_changes, gone_subs, is_unchanged, new_entries, new_got, other_senders, other_subs, same_client}
+use Rattle.step_laws.specs.Steps.{ReportChange, ClientNow, NewGot, broker_changes, client_changes, gone_subs, is_unchanged, new_entries, new_got, other_replicators, other_subs, same_client}
 use Rattle.step_laws.specs.StepsFold.{KeptBroker, KeptClient, broker_reads_all, client_reads_all, kept_broker, kept_client}
-use Rattle.step_laws.proofs.Lines.{reads_both, reads_entries, reads_senders}
+use Rattle.step_laws.proofs.Lines.{reads_both, reads_entries, reads_replicators}
 use Rattle.step_laws.proofs.Naming.{NamesOnce, follows, renamed, stopped_once}
 use Rattle.step_laws.proofs.Subs.{Follows, reads_subs}
 
 -- ---- brokers
 
 -- what every event keeps of a broker: its ledgers, of which there is one, hold its entries, its subscriptions have names of their own, and it
--- has n senders
+-- has n replicators
 pub record Sound (n : ℕ) (b : Broker) : Type 0 where
   pub numbered : Numbered b.entries b.ledgers
   pub apart : NamesApart b.subs
-  pub senders : length b.senders ≡ n
+  pub replicators : length b.replicators ≡ n
 
 -- what an event may make of a broker
 pub record GoesOn (b a : Broker) : Type 0 where
@@ -57,13 +57,13 @@ pub broker_folds : (s : Setup) (x : ℕ) (b a : Broker) → NamesApart b.subs �
 broker_folds s x b a apart_b apart_a on =
     let k : KeptBroker = kept_broker s x b in let a_then = kept_broker s x a in
     let k1 : KeptBroker = record k { entries = a_then.entries } in
-    let k2 : KeptBroker = record k1 { senders = a_then.senders } in
-    let senders : List ReportChange = other_senders x 0 s.clusters b a in
+    let k2 : KeptBroker = record k1 { replicators = a_then.replicators } in
+    let replicators : List ReportChange = other_replicators x 0 s.clusters b a in
     let subs : List ReportChange = gone_subs b a ++ other_subs b a a.subs in
-    reads_both k (new_entries s.clusters b a) (senders ++ subs)
-    ∙ ap (λ (j : KeptBroker). broker_reads_all j (senders ++ subs)) (reads_entries s.clusters b a k on.stays refl)
-    ∙ reads_both k1 senders subs
-    ∙ ap (λ (j : KeptBroker). broker_reads_all j subs) (reads_senders x s.clusters b a k1 refl)
+    reads_both k (new_entries s.clusters b a) (replicators ++ subs)
+    ∙ ap (λ (j : KeptBroker). broker_reads_all j (replicators ++ subs)) (reads_entries s.clusters b a k on.stays refl)
+    ∙ reads_both k1 replicators subs
+    ∙ ap (λ (j : KeptBroker). broker_reads_all j subs) (reads_replicators x s.clusters b a k1 refl)
     ∙ reads_subs b a k2 on.follows apart_b apart_a refl
 
 written_stays : (per : ℕ) (b : Broker) (ws : List Write) (cs : List BrokerChange) → Numbered b.entries b.ledgers
@@ -80,29 +80,29 @@ written_numbered per b ws cs numbered =
     subst (λ (ls : List ℕ). Numbered d.entries ls) (sym (all_changed_ledgers c cs))
     (subst (λ (es : List Entry). Numbered es c.ledgers) (sym (all_changed_entries c cs)) (writes_steady per b ws numbered).numbered)
 
-set_length : (b : Broker) (y : ℕ) (f : Sender → Sender) → length (at_sender b y f).senders ≡ length b.senders
-set_length b y f = length-set b.senders y (f (sender_at b y))
+set_length : (b : Broker) (y : ℕ) (f : Replicator → Replicator) → length (at_replicator b y f).replicators ≡ length b.replicators
+set_length b y f = length-set b.replicators y (f (replicator_at b y))
 
-write_length : (per : ℕ) (b : Broker) (w : Write) → length (written per b w).senders ≡ length b.senders
-write_length per b (write.SenderAck y i) = set_length b y (λ s. record s { cursor = with_index s.cursor i })
+write_length : (per : ℕ) (b : Broker) (w : Write) → length (written per b w).replicators ≡ length b.replicators
+write_length per b (write.ReplicatorAck y i) = set_length b y (λ s. record s { cursor = with_index s.cursor i })
 write_length per b (write.SessionNumber y session) = set_length b y (λ s. record s { session = session })
-write_length per b (write.Create n kind replicated latest) = on_if (λ (c : Broker). length c.senders ≡ length b.senders) (is_some (sub_named b.subs n)) b _ refl refl
+write_length per b (write.Create n kind replicated latest) = on_if (λ (c : Broker). length c.replicators ≡ length b.replicators) (is_some (sub_named b.subs n)) b _ refl refl
 write_length per b w = refl
 
-writes_length : (per : ℕ) (b : Broker) (ws : List Write) → length (all_written per b ws).senders ≡ length b.senders
+writes_length : (per : ℕ) (b : Broker) (ws : List Write) → length (all_written per b ws).replicators ≡ length b.replicators
 writes_length per b [] = refl
 writes_length per b (w ∷ ws) = writes_length per (written per b w) ws ∙ write_length per b w
 
-change_length : (b : Broker) (c : BrokerChange) → length (changed b c).senders ≡ length b.senders
-change_length b (change.Opening y) = set_length b y sender_reset
-change_length b (change.Opened y) = set_length b y (λ s. record s { state = sender_state.Open })
-change_length b (change.Pend y i) = set_length b y (sender_sent i)
+change_length : (b : Broker) (c : BrokerChange) → length (changed b c).replicators ≡ length b.replicators
+change_length b (change.Opening y) = set_length b y replicator_reset
+change_length b (change.Opened y) = set_length b y (λ s. record s { state = replicator_state.Open })
+change_length b (change.Pend y i) = set_length b y (replicator_sent i)
 change_length b (change.ReadTo y i) = set_length b y (λ s. record s { read_index = i })
 change_length b (change.Unpend y number) = set_length b y (λ s. record s { pending = without_number s.pending number })
-change_length b change.Forget = length-map b.senders sender_restarted
+change_length b change.Forget = length-map b.replicators replicator_restarted
 change_length b c = refl
 
-changes_length : (b : Broker) (cs : List BrokerChange) → length (all_changed b cs).senders ≡ length b.senders
+changes_length : (b : Broker) (cs : List BrokerChange) → length (all_changed b cs).replicators ≡ length b.replicators
 changes_length b [] = refl
 changes_length b (c ∷ cs) = changes_length (changed b c) cs ∙ change_length b c
 
@@ -110,7 +110,7 @@ pub done_sound : (n per : ℕ) (b : Broker) (p : Plan) → Sound n b → Sound n
 done_sound n per b p h = record {
   numbered = written_numbered per b p.writes p.changes h.numbered;
   apart = done_apart per b p h.apart;
-  senders = changes_length (all_written per b p.writes) p.changes ∙ writes_length per b p.writes ∙ h.senders;
+  replicators = changes_length (all_written per b p.writes) p.changes ∙ writes_length per b p.writes ∙ h.replicators;
 }
 
 pub done_goes : (n per : ℕ) (b : Broker) (p : Plan) → NamesOnce p.writes → Sound n b → GoesOn b (done per b p)
@@ -247,10 +247,10 @@ receipt_same k false = refl
 received_got : (k : Client) (id : ℕ) (i : Ident) (p : Position) → GotMore k (received k id i p)
 received_got k id i p = on_if (GotMore k) (is_number id k.sub) _ k (record { more = i ∷ []; is = refl }) (same_got k k refl)
 
-message_got : (k : Client) (id : ℕ) (p : Position) (source : Option Place) (e : Entry) → GotMore k (got_message k id p source e)
+message_got : (k : Client) (id : ℕ) (p : Position) (source : Option ClusterRef) (e : Entry) → GotMore k (got_message k id p source e)
 message_got k id p None e = received_got k id _ p
-message_got k id p (Some (place.Known x)) e = received_got k id _ p
-message_got k id p (Some (place.Stranger n)) e = same_got k k refl
+message_got k id p (Some (cluster_ref.Known x)) e = received_got k id _ p
+message_got k id p (Some (cluster_ref.Stranger n)) e = same_got k k refl
 
 frame_got : (d : Declared) (k : Client) (f : Frame) → GotMore k (got_frame d k f)
 frame_got d k (frame.SendReceipt id n p) = same_got k _ (counted_same d k n (with_receipt k (is_duplicate p)) (receipt_same k (is_duplicate p)))

@@ -177,7 +177,7 @@ all_settled l s r (e ∷ es) h =
     ∙ ap (λ (k : Kept). reads_events s k (settling_told l s q es)) (one_settled l s r e h)
     ∙ all_settled l s q es (one_begun l s r e h)
 
--- what the rounds behind one that did something tell
+-- what the rounds after one that did something tell
 abbrev behind : Bool → Bool → List ToldEvent → List ToldEvent
 behind ended same es = elim (not ended && not same) as (λ b. List ToldEvent) [ true ↦ es | false ↦ [] ]
 

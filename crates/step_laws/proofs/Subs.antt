@@ -21,8 +21,10 @@ use Rattle.world_laws.proofs.Walks.Walk.{left, on_if, right}
 use Rattle.step_laws.specs.Steps.{SubGone, SubNow, gone_subs, other_subs, same_bool, same_sub, sub_unless_same}
 use Rattle.step_laws.specs.StepsFold.{KeptBroker, KeptSub, broker_reads, broker_reads_all, is_named, kept_sub, with_sub}
 use Rattle.step_laws.proofs.Lines.{reads_both}
+use Rattle.geo_base.proofs.Bools.{or_of_second}
+use Rattle.geo_base.proofs.Lists.{bytes_eq_back}
 
--- how the subscriptions us came of vs, place by place: each of vs stays where it was, by its name, or is gone; behind them stands what is new
+-- how the subscriptions us came of vs, place by place: each of vs stays where it was, by its name, or is gone; after them stands what is new
 pub data Follows (vs us : List Subscription) : List Subscription → List Subscription → Type 0 where
   New : (fs : List Subscription) → Each (λ (f : Subscription). sub_named vs f.name ≡ None) fs → Follows vs us [] fs
   Same : (v u : Subscription) (xs ys : List Subscription) → u.name ≡ v.name → sub_named vs v.name ≡ Some v → sub_named us u.name ≡ Some u
@@ -139,17 +141,13 @@ none_gone us (w ∷ vs) n u is = by (sub_named us w.name) refl (none_gone us vs 
     by (Some x) e ih = ih
     by None e ih = ap (λ (t : Bool). t || has_name n (filter (is_gone us) vs)) (differ (bytes_eq n w.name) refl e) ∙ ih
 
-or_true : (a b : Bool) → b ≡ true → (a || b) ≡ true
-or_true true b h = refl
-or_true false b h = h
-
 -- who is gone has the name of one that is
 gone_there : (us vs : List Subscription) (v : Subscription) → sub_named vs v.name ≡ Some v → sub_named us v.name ≡ None → has_name v.name (filter (is_gone us) vs) ≡ true
 gone_there us [] v is none = absurd (none-some v is)
 gone_there us (w ∷ vs) v is none = by (bytes_eq w.name v.name) is (λ e. gone_there us vs v e none)
   where
     more : has_name v.name (filter (is_gone us) vs) ≡ true → has_name v.name (filter (is_gone us) (w ∷ vs)) ≡ true
-    more h = on_if (λ (xs : List Subscription). has_name v.name xs ≡ true) (is_gone us w) (w ∷ filter (is_gone us) vs) (filter (is_gone us) vs) (or_true (bytes_eq v.name w.name) _ h) h
+    more h = on_if (λ (xs : List Subscription). has_name v.name xs ≡ true) (is_gone us w) (w ∷ filter (is_gone us) vs) (filter (is_gone us) vs) (or_of_second (bytes_eq v.name w.name) _ h) h
 
     here : w ≡ v → has_name v.name (filter (is_gone us) (w ∷ vs)) ≡ true
     here same = subst (λ (x : Subscription). has_name v.name (if is_gone us x then x ∷ filter (is_gone us) vs else filter (is_gone us) vs) ≡ true) (sym same)
@@ -169,7 +167,7 @@ none_named n (k ∷ ks) h = ap (λ (t : Bool). t || list_any (is_named n) ks) h.
 
 one_named : (n : List ℕ) (before after : List KeptSub) (k : KeptSub) → is_named n k ≡ true → list_any (is_named n) (before ++ k ∷ after) ≡ true
 one_named n [] after k is = ap (λ (t : Bool). t || list_any (is_named n) after) is
-one_named n (j ∷ before) after k is = or_true (is_named n j) _ (one_named n before after k is)
+one_named n (j ∷ before) after k is = or_of_second (is_named n j) _ (one_named n before after k is)
 
 abbrev replaced : List ℕ → List ℕ → KeptSub → KeptSub
 replaced n line v = if is_named n v then record { name = n; line = line } else v
@@ -179,7 +177,7 @@ none_replaced n line [] h = refl
 none_replaced n line (k ∷ ks) h =
     ap (λ (t : Bool). (if t then record { name = n; line = line } else k) ∷ map (replaced n line) ks) h.0 ∙ ap (λ (js : List KeptSub). k ∷ js) (none_replaced n line ks h.1)
 
--- a new one stands behind the others, and one that is there is replaced at its place
+-- a new one stands after the others, and one that is there is replaced at its place
 with_new : (n line : List ℕ) (ks : List KeptSub) → Each (λ (k : KeptSub). is_named n k ≡ false) ks → with_sub n line ks ≡ ks ++ record { name = n; line = line } ∷ []
 with_new n line ks h = ap (λ (t : Bool). if t then map (replaced n line) ks else ks ++ record { name = n; line = line } ∷ []) (none_named n ks h)
 
@@ -198,13 +196,6 @@ with_old n line before after k is none_before none_after =
 -- no one of done has the name of one of ys
 abbrev AreOthers : List KeptSub → List Subscription → Type 0
 AreOthers done ys = Each (λ (u : Subscription). Each (λ (k : KeptSub). is_named u.name k ≡ false) done) ys
-
-apart_back : (m n : List ℕ) → bytes_eq m n ≡ false → bytes_eq n m ≡ false
-apart_back m n h = by (bytes_eq n m) refl
-  where
-    by : (t : Bool) → bytes_eq n m ≡ t → t ≡ false
-    by false e = refl
-    by true e = absurd (false≢true (sym h ∙ (bytes_eq-Decides m n).1 (sym ((bytes_eq-Decides n m).0 e))))
 
 -- one more is done
 more_others : (done : List KeptSub) (u : Subscription) (line : List ℕ) (ys : List Subscription) → AreOthers done (u ∷ ys) → NamesApart (u ∷ ys)
@@ -229,7 +220,7 @@ one_sub b a k done rest v u name none_done none_rest is = by (same_sub b v a u) 
         ap (λ (ss : List KeptSub). record k { subs = ss })
         (ap (with_sub u.name (sub_line a u)) is ∙ with_old u.name (sub_line a u) done rest (kept_sub b v) ((bytes_eq-Decides v.name u.name).1 (sym name)) none_done none_rest)
 
--- what is new stands behind what is there
+-- what is new stands after what is there
 new_subs : (b a : Broker) (fs : List Subscription) → Each (λ (f : Subscription). sub_named b.subs f.name ≡ None) fs → NamesApart fs → (done : List KeptSub) → AreOthers done fs
     → (k : KeptBroker) → k.subs ≡ done → broker_reads_all k (other_subs b a fs) ≡ record k { subs = done ++ map (kept_sub a) fs }
 new_subs b a [] news apart done others k is = ap (λ (ss : List KeptSub). record k { subs = ss }) (is ∙ sym (append-nil done))
@@ -261,7 +252,7 @@ reads_others b a xs ys (Follows.Same v u xs' ys' name there still more) apart_x 
     let found : sub_named b.subs u.name ≡ Some v = ap (sub_named b.subs) name ∙ there in
     let apart : Each (λ (x : Subscription). bytes_eq x.name u.name ≡ false) xs' =
     each_map (λ (x : Subscription). bytes_eq v.name x.name ≡ false) (λ (x : Subscription). bytes_eq x.name u.name ≡ false)
-    (λ x h. ap (bytes_eq x.name) name ∙ apart_back v.name x.name h) xs' apart_x.0 in
+    (λ x h. ap (bytes_eq x.name) name ∙ bytes_eq_back v.name x.name h) xs' apart_x.0 in
     let next : KeptBroker = record k { subs = done ++ kept_sub a u ∷ rest } in
     reads_both k (sub_unless_same b (sub_named b.subs u.name) a u) (other_subs b a ys')
     ∙ ap (λ (o : Option Subscription). broker_reads_all (broker_reads_all k (sub_unless_same b o a u)) (other_subs b a ys')) found

@@ -5,37 +5,37 @@ use Rattle.std.specs.Prelude.{ℕ, zero, suc, ◌+◌, ◌==◌, Bool, true, fal
 use Rattle.geo_base.specs.declared.event.Event.{Event}
 use Rattle.geo_base.specs.declared.event.Step.{Step}
 use Rattle.geo_base.specs.declared.event.Step.TheVariants as step
-use Rattle.geo_base.specs.declared.sender.SenderState.{SenderState}
-use Rattle.geo_base.specs.declared.sender.SenderState.TheVariants as sender_state
-use Rattle.geo_base.specs.Broker.{Broker, backlog, sender_at, sub_named}
+use Rattle.geo_base.specs.declared.replicator.ReplicatorState.{ReplicatorState}
+use Rattle.geo_base.specs.declared.replicator.ReplicatorState.TheVariants as replicator_state
+use Rattle.geo_base.specs.Broker.{Broker, backlog, replicator_at, sub_named}
 use Rattle.geo_base.specs.Client.{Client}
 use Rattle.geo_base.specs.Cursor.{mark}
 use Rattle.geo_base.specs.Nodes.{BrokerNode, ClientNode, Node, node_of}
-use Rattle.geo_base.specs.Report.{client_line, entry_lines, got_line, head_line, report_lines, sender_line, sub_line, words}
+use Rattle.geo_base.specs.Report.{client_line, entry_lines, got_line, head_line, report_lines, replicator_line, sub_line, words}
 use Rattle.geo_base.specs.Run.{Limits, Ran, all_settle, budget, counting_round, pairs, resets_of, round_of, run_from, settles, steps}
-use Rattle.geo_base.specs.Sender.{Sender}
+use Rattle.geo_base.specs.Replicator.{Replicator}
 use Rattle.geo_base.specs.Setup.{Setup, declared_at, topic_name}
 use Rattle.geo_base.specs.Subscribing.{same_kind}
 use Rattle.geo_base.specs.Subscription.{Subscription}
 use Rattle.geo_base.specs.World.{World, client_at, topic_at}
 use Rattle.script_text.specs.Said.{Said}
 
--- ---- what a report shows of a sender, a subscription and a client is the same
+-- ---- what a report shows of a replicator, a subscription and a client is the same
 
 abbrev pub same_bool : Bool → Bool → Bool
 same_bool true b = b
 same_bool false b = not b
 
-abbrev pub same_state : SenderState → SenderState → Bool
-same_state sender_state.Closed sender_state.Closed = true
-same_state sender_state.Opening sender_state.Opening = true
-same_state sender_state.Open sender_state.Open = true
+abbrev pub same_state : ReplicatorState → ReplicatorState → Bool
+same_state replicator_state.Closed replicator_state.Closed = true
+same_state replicator_state.Opening replicator_state.Opening = true
+same_state replicator_state.Open replicator_state.Open = true
 same_state a b = false
 
-abbrev pub same_sender : Sender → Sender → Bool
-same_sender s q = (s.session == q.session) && same_state s.state q.state && (mark s.cursor == mark q.cursor)
+abbrev pub same_replicator : Replicator → Replicator → Bool
+same_replicator s q = (s.session == q.session) && same_state s.state q.state && (mark s.cursor == mark q.cursor)
 
--- of one name, v at the broker b before the event, and u at the broker a behind it
+-- of one name, v at the broker b before the event, and u at the broker a after it
 abbrev pub same_sub : Broker → Subscription → Broker → Subscription → Bool
 same_sub b v a u =
     same_kind v.kind u.kind && same_bool v.replicated u.replicated && (mark v.cursor == mark u.cursor)
@@ -49,7 +49,7 @@ same_client k m =
 
 pub data ReportChange : Type 0 where
   NewEntry : (line : List ℕ) → ReportChange
-  SenderNow : (cluster : ℕ) → (line : List ℕ) → ReportChange
+  ReplicatorNow : (cluster : ℕ) → (line : List ℕ) → ReportChange
   SubGone : (name : List ℕ) → ReportChange
   SubNow : (name : List ℕ) → (line : List ℕ) → ReportChange
   ClientNow : (line : List ℕ) → ReportChange
@@ -61,11 +61,11 @@ abbrev pub new_entries : List (List ℕ) → Broker → Broker → List ReportCh
 new_entries names b a = map (λ line. NewEntry line) (entry_lines names a.ledgers (length b.entries) (drop (length b.entries) a.entries))
 
 -- to each other cluster, y being the number of the first one of the list
-abbrev pub other_senders : ℕ → ℕ → List (List ℕ) → Broker → Broker → List ReportChange
-other_senders own y [] b a = []
-other_senders own y (n ∷ ns) b a =
-    (if (own == y) then [] else if same_sender (sender_at b y) (sender_at a y) then [] else SenderNow y (sender_line n (sender_at a y)) ∷ [])
-    ++ other_senders own (y + 1) ns b a
+abbrev pub other_replicators : ℕ → ℕ → List (List ℕ) → Broker → Broker → List ReportChange
+other_replicators own y [] b a = []
+other_replicators own y (n ∷ ns) b a =
+    (if (own == y) then [] else if same_replicator (replicator_at b y) (replicator_at a y) then [] else ReplicatorNow y (replicator_line n (replicator_at a y)) ∷ [])
+    ++ other_replicators own (y + 1) ns b a
 
 abbrev pub gone_subs : Broker → Broker → List ReportChange
 gone_subs b a = map (λ (v : Subscription). SubGone v.name) (filter (λ (v : Subscription). not (is_some (sub_named a.subs v.name))) b.subs)
@@ -80,7 +80,7 @@ other_subs b a (u ∷ us) = sub_unless_same b (sub_named b.subs u.name) a u ++ o
 
 -- in the order of a report, with what is gone before what is new
 abbrev pub broker_changes : List (List ℕ) → ℕ → Broker → Broker → List ReportChange
-broker_changes names x b a = new_entries names b a ++ (other_senders x 0 names b a ++ (gone_subs b a ++ other_subs b a a.subs))
+broker_changes names x b a = new_entries names b a ++ (other_replicators x 0 names b a ++ (gone_subs b a ++ other_subs b a a.subs))
 
 -- ---- at a client, which was k and is m: its line, also where only what it got is new, and that
 
@@ -93,7 +93,7 @@ is_unchanged k m = same_client k m && (length k.got == length m.got)
 abbrev pub client_changes : Setup → ℕ → Client → Client → List ReportChange
 client_changes s c k m = if is_unchanged k m then [] else ClientNow (client_line s (declared_at s c) m) ∷ new_got s.clusters k m
 
--- ---- at a node, from the world before to the world behind
+-- ---- at a node, from the world before to the world after
 
 pub record Changed : Type 0 where
   pub node : Node
@@ -124,13 +124,13 @@ pub record ToldEvent : Type 0 where
   pub number : ℕ
   pub at : List Changed
 
--- head: the counts behind a settle
+-- head: the counts after a settle
 pub data ToldStep : Type 0 where
   WasIdle : ToldStep
   Did : (at : List Changed) → ToldStep
   Settled : (events : List ToldEvent) → (head : List ℕ) → ToldStep
 
--- of a plain event, or of a stop in its midst: w is the world before, v the one behind
+-- of a plain event, or of a stop in its midst: w is the world before, v the one after
 abbrev pub did_or_idle : Setup → World → World → Event → ToldStep
 did_or_idle s w v e = if v.events == w.events then WasIdle else Did (changed_at s w v (node_of s e))
 
@@ -172,7 +172,7 @@ told_from l s r (e ∷ es) = step_told l s r e ∷ told_from l s (steps l s r e)
 
 abbrev pub change_line : ReportChange → List ℕ
 change_line (NewEntry line) = line
-change_line (SenderNow y line) = line
+change_line (ReplicatorNow y line) = line
 change_line (SubGone n) = words (codes "gone" ∷ n ∷ [])
 change_line (SubNow n line) = line
 change_line (ClientNow line) = line
@@ -196,7 +196,7 @@ event_lines wording s [] = []
 event_lines wording s (d ∷ ds) =
     words (codes "event" ∷ decimal d.number ∷ wording (step.Plain d.event) ∷ []) ∷ map indented (changed_lines s d.at) ++ event_lines wording s ds
 
--- step NUMBER line LINE, `idle` where it was idle, and the line's words; behind it what it changed, or the events of a settle and the
+-- step NUMBER line LINE, `idle` where it was idle, and the line's words; after it what it changed, or the events of a settle and the
 -- counts
 abbrev pub step_head : ℕ → Said → List (List ℕ) → List ℕ
 step_head n a ws = words (codes "step" ∷ decimal n ∷ codes "line" ∷ decimal a.line ∷ ws ++ a.bytes ∷ [])
@@ -212,7 +212,7 @@ all_step_lines wording s n [] ks = []
 all_step_lines wording s n (a ∷ at) [] = []
 all_step_lines wording s n (a ∷ at) (k ∷ ks) = step_lines wording s n a k ++ all_step_lines wording s (n + 1) at ks
 
--- behind the line `steps`: the report of where the run begins, each step, and the counts at its end
+-- after the line `steps`: the report of where the run begins, each step, and the counts at its end
 abbrev pub steps_lines : (Step → List ℕ) → Limits → Setup → Ran → List Said → List Step → List (List ℕ)
 steps_lines wording l s r at es =
     codes "steps" ∷ report_lines s r.world ++ (all_step_lines wording s 1 at (told_from l s r es) ++ head_line (run_from l s r es).world ∷ [])

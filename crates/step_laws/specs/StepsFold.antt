@@ -3,19 +3,19 @@ use Rattle.std.specs.Prelude.{◌≡◌, ℕ, ◌+◌, ◌*◌, ◌%◌, ◌<◌
 use Rattle.std.specs.List.{list_any}
 use Rattle.std.specs.Str.{bytes_eq}
 use Rattle.geo_base.specs.declared.event.Step.{Step}
-use Rattle.geo_base.specs.Broker.{Broker, sender_at}
+use Rattle.geo_base.specs.Broker.{Broker, replicator_at}
 use Rattle.geo_base.specs.Client.{Client}
 use Rattle.geo_base.specs.Nodes.{BrokerNode, ClientNode, Node}
-use Rattle.geo_base.specs.Report.{client_line, entry_lines, got_line, sender_line, sub_line, topic_lines, words}
+use Rattle.geo_base.specs.Report.{client_line, entry_lines, got_line, replicator_line, sub_line, topic_lines, words}
 use Rattle.geo_base.specs.Run.{Limits, Ran, run_from}
 use Rattle.geo_base.specs.Scripted.{AreDistinct}
 use Rattle.geo_base.specs.Setup.{Declared, Setup, declared_at}
 use Rattle.geo_base.specs.Subscription.{Subscription}
 use Rattle.geo_base.specs.World.{World, broker_at, node}
-use Rattle.step_laws.specs.Steps.{ReportChange, Changed, ClientNow, Did, NewEntry, NewGot, SenderNow, Settled, SubGone, SubNow, ToldEvent, ToldStep, WasIdle, told_from}
+use Rattle.step_laws.specs.Steps.{ReportChange, Changed, ClientNow, Did, NewEntry, NewGot, ReplicatorNow, Settled, SubGone, SubNow, ToldEvent, ToldStep, WasIdle, told_from}
 use Rattle.std.specs.Prelude.{codes}
 
--- ---- what a reader keeps: of a broker the lines of its entries, of each sender by its cluster's number, of each subscription by its
+-- ---- what a reader keeps: of a broker the lines of its entries, of each replicator by its cluster's number, of each subscription by its
 -- ---- name in order of creation; of a client its line, and the lines of what it got
 
 pub record KeptSub : Type 0 where
@@ -24,7 +24,7 @@ pub record KeptSub : Type 0 where
 
 pub record KeptBroker : Type 0 where
   pub entries : List (List ℕ)
-  pub senders : List (List ℕ)
+  pub replicators : List (List ℕ)
   pub subs : List KeptSub
 
 pub record KeptClient : Type 0 where
@@ -37,7 +37,7 @@ pub record Kept : Type 0 where
   pub clients : List KeptClient
 
 abbrev pub no_broker_kept : KeptBroker
-no_broker_kept = record { entries = []; senders = []; subs = [] }
+no_broker_kept = record { entries = []; replicators = []; subs = [] }
 
 abbrev pub no_client_kept : KeptClient
 no_client_kept = record { line = []; got = [] }
@@ -54,7 +54,7 @@ with_sub n line vs =
 
 abbrev pub broker_reads : KeptBroker → ReportChange → KeptBroker
 broker_reads k (NewEntry line) = record k { entries = k.entries ++ line ∷ [] }
-broker_reads k (SenderNow y line) = record k { senders = slice_set k.senders y line }
+broker_reads k (ReplicatorNow y line) = record k { replicators = slice_set k.replicators y line }
 broker_reads k (SubGone n) = record k { subs = filter (λ v. not (is_named n v)) k.subs }
 broker_reads k (SubNow n line) = record k { subs = with_sub n line k.subs }
 broker_reads k c = k
@@ -97,9 +97,9 @@ reads_steps s k (d ∷ ds) = reads_steps s (reads_step s k d) ds
 -- ---- what a reader of a world's report keeps
 
 -- of a broker at cluster own, whose place for itself stays empty
-abbrev pub kept_senders : ℕ → ℕ → List (List ℕ) → Broker → List (List ℕ)
-kept_senders own y [] b = []
-kept_senders own y (n ∷ ns) b = (if own == y then [] else sender_line n (sender_at b y)) ∷ kept_senders own (y + 1) ns b
+abbrev pub kept_replicators : ℕ → ℕ → List (List ℕ) → Broker → List (List ℕ)
+kept_replicators own y [] b = []
+kept_replicators own y (n ∷ ns) b = (if own == y then [] else replicator_line n (replicator_at b y)) ∷ kept_replicators own (y + 1) ns b
 
 abbrev pub kept_sub : Broker → Subscription → KeptSub
 kept_sub b v = record { name = v.name; line = sub_line b v }
@@ -107,7 +107,7 @@ kept_sub b v = record { name = v.name; line = sub_line b v }
 abbrev pub kept_broker : Setup → ℕ → Broker → KeptBroker
 kept_broker s x b = record {
   entries = entry_lines s.clusters b.ledgers 0 b.entries;
-  senders = kept_senders x 0 s.clusters b;
+  replicators = kept_replicators x 0 s.clusters b;
   subs = map (kept_sub b) b.subs;
 }
 
@@ -133,7 +133,7 @@ lines_but own y [] = []
 lines_but own y (l ∷ ls) = if own == y then lines_but own (y + 1) ls else l ∷ lines_but own (y + 1) ls
 
 abbrev pub broker_lines_kept : ℕ → KeptBroker → List (List ℕ)
-broker_lines_kept x k = k.entries ++ (lines_but x 0 k.senders ++ map (λ (v : KeptSub). v.line) k.subs)
+broker_lines_kept x k = k.entries ++ (lines_but x 0 k.replicators ++ map (λ (v : KeptSub). v.line) k.subs)
 
 abbrev pub cluster_lines_kept : Setup → Kept → ℕ → List ℕ → ℕ → List (List ℕ) → List (List ℕ)
 cluster_lines_kept s k t topic x [] = []
@@ -152,12 +152,12 @@ topic_lines_kept s k t (n ∷ ns) = cluster_lines_kept s k t n 0 s.clusters ++ (
 
 -- ---- the law
 
--- where a run may begin: there is a broker for each node with a sender for each cluster, its ledgers, of which there is one, hold its
+-- where a run may begin: there is a broker for each node with a replicator for each cluster, its ledgers, of which there is one, hold its
 -- entries, its subscriptions have names of their own; and a client for each that is declared
 pub record IsBeginning (s : Setup) (w : World) : Type 0 where
   pub brokers : length w.brokers ≡ length s.topics * length s.clusters
   pub clients : length w.clients ≡ length s.clients
-  pub senders : (i : ℕ) → i < length w.brokers → length (broker_at w i).senders ≡ length s.clusters
+  pub replicators : (i : ℕ) → i < length w.brokers → length (broker_at w i).replicators ≡ length s.clusters
   pub some : (i : ℕ) → i < length w.brokers → 0 < length (broker_at w i).ledgers
   pub ledgers : (i : ℕ) → i < length w.brokers → sum (broker_at w i).ledgers ≡ length (broker_at w i).entries
   pub subs : (i : ℕ) → i < length w.brokers → AreDistinct (map (λ (v : Subscription). v.name) (broker_at w i).subs)

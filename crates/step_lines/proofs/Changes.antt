@@ -13,7 +13,7 @@ use Rattle.geo_base.specs.Setup.{Declared, Setup}
 use Rattle.geo_base.specs.Subscription.{Subscription}
 use Rattle.report_lines.proofs.Added.{drop_here}
 use Rattle.report_lines.specs.declared.lines.SubShown.{SubShown}
-use Rattle.step_laws.specs.Steps.{ClientNow, NewEntry, NewGot, ReportChange, SubGone, SubNow, broker_changes, change_line, gone_subs, new_entries, new_got, other_senders, other_subs, sub_unless_same}
+use Rattle.step_laws.specs.Steps.{ClientNow, NewEntry, NewGot, ReportChange, SubGone, SubNow, broker_changes, change_line, gone_subs, new_entries, new_got, other_replicators, other_subs, sub_unless_same}
 use Rattle.step_lines.specs.declared.heads.Indent.{Indent}
 use Rattle.step_lines.specs.declared.heads.Indent.TheVariants as indent
 use Rattle.step_lines.specs.declared.noted.NotedBroker.{NotedBroker}
@@ -22,6 +22,7 @@ use Rattle.step_lines.specs.declared.noted.NotedSub.{NotedSub}
 use Rattle.step_lines.specs.Changes.{spaces, stood_lines}
 use Rattle.step_lines.specs.Noted.{IsNoted, client_told, gone_told, noted_client, noted_sub, same_before, same_noted, shown_named, shown_sub, sub_told, subs_told}
 use Rattle.step_lines.proofs.Lines.{item, next_line, stood_both}
+pub use Rattle.geo_base.proofs.Lists.{index_or_pushed as index_last}
 
 -- ---- subscriptions
 
@@ -72,7 +73,7 @@ added i xs ys old mid new one two =
 pub all_changes : (names : List (List ℕ)) (own n : ℕ) (b a : Broker) (ks : List NotedSub) (i : Indent) (old one two three four : List ℕ)
     → n ≡ length b.entries → ks ≡ map (noted_sub b) b.subs
     → one ≡ old ++ stood_lines i (entry_lines names a.ledgers n (drop n a.entries))
-    → two ≡ one ++ stood_lines i (map change_line (other_senders own 0 names b a))
+    → two ≡ one ++ stood_lines i (map change_line (other_replicators own 0 names b a))
     → three ≡ two ++ stood_lines i (map change_line (gone_told a ks))
     → four ≡ three ++ stood_lines i (map change_line (subs_told a ks a.subs))
     → four ≡ old ++ stood_lines i (map change_line (broker_changes names own b a))
@@ -85,8 +86,8 @@ all_changes names own n b a ks i old one two three four many noted p q r s =
     r ∙ ap (λ (cs : List ReportChange). two ++ stood_lines i (map change_line cs)) (ap (λ (ls : List NotedSub). gone_told a ls) noted ∙ gone_is b a b.subs) in
     let other : four ≡ three ++ stood_lines i (map change_line (other_subs b a a.subs)) =
     s ∙ ap (λ (cs : List ReportChange). three ++ stood_lines i (map change_line cs)) (ap (λ (ls : List NotedSub). subs_told a ls a.subs) noted ∙ subs_are b a a.subs) in
-    added i (new_entries names b a) (other_senders own 0 names b a ++ (gone_subs b a ++ other_subs b a a.subs)) old one four entries
-    (added i (other_senders own 0 names b a) (gone_subs b a ++ other_subs b a a.subs) one two four q
+    added i (new_entries names b a) (other_replicators own 0 names b a ++ (gone_subs b a ++ other_subs b a a.subs)) old one four entries
+    (added i (other_replicators own 0 names b a) (gone_subs b a ++ other_subs b a a.subs) one two four q
     (added i (gone_subs b a) (other_subs b a a.subs) two three four gone other))
 
 -- ---- a client
@@ -124,10 +125,6 @@ pub index_first : {X : Type 0} (xs ys : List X) (k : ℕ) (d : X) → k < length
 index_first [] ys k d lt = absurd (omega (arith, lt))
 index_first (x ∷ xs) ys zero d lt = refl
 index_first (x ∷ xs) ys (suc k) d lt = index_first xs ys k d (omega (arith, lt))
-
-pub index_last : {X : Type 0} (xs : List X) (x d : X) → slice_index_or (xs ++ x ∷ []) (length xs) d ≡ x
-index_last [] x d = refl
-index_last (y ∷ xs) x d = index_last xs x d
 
 pub below_or : (y n : ℕ) → y < n + 1 → (y ≡ n → ⊥) → y < n
 below_or y n lt apart = by (eq-or-lt_of_le (at_most y n lt))
@@ -176,7 +173,7 @@ one_got is k = let one : (k + 1) - k ≡ 1 = omega arith in ap (λ (n : ℕ). ta
 pub all_changes_on : (names : List (List ℕ)) (own : ℕ) (b a : Broker) (k : NotedBroker) (gs os : List NotedSub) (i : Indent) (old one two three four : List ℕ) (r : Result (Unit {0}) Memory)
     → IsNoted (length names) b k → gs ≡ k.subs.items → os ≡ k.subs.items
     → one ≡ old ++ stood_lines i (entry_lines names a.ledgers k.entries (drop k.entries a.entries))
-    → two ≡ one ++ stood_lines i (map change_line (other_senders own 0 names b a))
+    → two ≡ one ++ stood_lines i (map change_line (other_replicators own 0 names b a))
     → three ≡ two ++ stood_lines i (map change_line (gone_told a gs))
     → OnOk r (four ≡ three ++ stood_lines i (map change_line (subs_told a os a.subs)))
     → OnOk r (four ≡ old ++ stood_lines i (map change_line (broker_changes names own b a)))

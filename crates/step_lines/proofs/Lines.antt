@@ -1,9 +1,9 @@
 -- Lines that stand to the right, one after another.
-use Rattle.std.proofs.Common.{◌≡◌, ℕ, zero, suc, ◌+◌, ◌<◌, List, [], ◌∷◌, ◌++◌, length, map, drop, get_or, append_assoc, refl, sym, ◌∙◌, ap, arith}
+use Rattle.std.proofs.Common.{◌≡◌, ℕ, ◌+◌, ◌<◌, List, [], ◌∷◌, ◌++◌, length, map, drop, get_or, append_assoc, refl, sym, ◌∙◌, ap}
 use Rattle.std.proofs.lemmas.List.{drop_more}
 use Rattle.geo_base.specs.Broker.{Broker}
-use Rattle.step_laws.specs.Steps.{ReportChange, change_line, other_senders}
-use Rattle.step_lines.specs.Noted.{sender_told}
+use Rattle.step_laws.specs.Steps.{ReportChange, change_line, other_replicators}
+use Rattle.step_lines.specs.Noted.{replicator_told}
 use Rattle.report_lines.proofs.Added.{drop_here}
 use Rattle.std.specs.Prelude.{Some, slice_get}
 use Rattle.geo_base.specs.declared.entry.Entry.{Entry}
@@ -11,6 +11,7 @@ use Rattle.geo_base.specs.Report.{entry_line, entry_lines}
 use Rattle.geo_base.specs.Topic.{position_at}
 use Rattle.step_lines.specs.declared.heads.Indent.{Indent}
 use Rattle.step_lines.specs.Changes.{spaces, stood, stood_lines}
+pub use Rattle.geo_base.proofs.Lists.{get_some_below as item}
 
 pub next_line : (i : Indent) (line : List ℕ) (ls : List (List ℕ)) (old mid new : List ℕ) → mid ≡ old ++ spaces i → new ≡ mid ++ (line ++ 10 ∷ [])
     → new ++ stood_lines i ls ≡ old ++ stood_lines i (line ∷ ls)
@@ -20,11 +21,6 @@ next_line i line ls old mid new one two =
     ∙ (append_assoc (old ++ sp) (line ++ 10 ∷ []) rest
     ∙ (ap (λ (t : List ℕ). (old ++ sp) ++ t) (append_assoc line (10 ∷ []) rest)
     ∙ (append_assoc old sp (line ++ (10 ∷ rest)) ∙ ap (λ (t : List ℕ). old ++ t) (sym (append_assoc sp line (10 ∷ rest))))))
-
-pub item : {X : Type 0} (xs : List X) (k : ℕ) → k < length xs → (x : X) × (slice_get xs k ≡ Some x)
-item [] k lt = absurd (omega (arith, lt))
-item (x ∷ xs) zero lt = (x, refl)
-item (x ∷ xs) (suc k) lt = item xs k (omega (arith, lt))
 
 pub next_entry : (names : List (List ℕ)) (ledgers : List ℕ) (es : List Entry) (i : Indent) (k : ℕ) (old mid new all : List ℕ) → k < length es → mid ≡ old ++ spaces i
     → ((e : Entry) → slice_get es k ≡ Some e → new ≡ mid ++ (entry_line names (position_at ledgers k) e ++ 10 ∷ []))
@@ -48,7 +44,7 @@ next_changes i xs ys all old new whole is told before =
     ∙ (append_assoc old (stood_lines i (map change_line xs)) (stood_lines i (map change_line ys))
     ∙ (ap (λ (t : List ℕ). old ++ t) (sym (stood_both i xs ys)) ∙ (ap (λ (cs : List ReportChange). old ++ stood_lines i (map change_line cs)) (sym is) ∙ before)))
 
-pub senders_next : (own k : ℕ) (names : List (List ℕ)) (n : List ℕ) (b a : Broker) → k < length names → n ≡ get_or names k n
-    → other_senders own k (drop k names) b a ≡ sender_told own k n b a ++ other_senders own (k + 1) (drop (k + 1) names) b a
-senders_next own k names n b a lt is =
-    ap (λ (ns : List (List ℕ)). other_senders own k ns b a) (drop_more names k n lt ∙ ap (λ (m : List ℕ). m ∷ drop (k + 1) names) (sym is))
+pub replicators_next : (own k : ℕ) (names : List (List ℕ)) (n : List ℕ) (b a : Broker) → k < length names → n ≡ get_or names k n
+    → other_replicators own k (drop k names) b a ≡ replicator_told own k n b a ++ other_replicators own (k + 1) (drop (k + 1) names) b a
+replicators_next own k names n b a lt is =
+    ap (λ (ns : List (List ℕ)). other_replicators own k ns b a) (drop_more names k n lt ∙ ap (λ (m : List ℕ). m ∷ drop (k + 1) names) (sym is))

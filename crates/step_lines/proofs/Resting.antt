@@ -1,4 +1,4 @@
--- Where all that an event writes is of senders, its broker's entries and subscriptions rest, and only senders are told.
+-- Where all that an event writes is of replicators, its broker's entries and subscriptions rest, and only replicators are told.
 use Rattle.std.proofs.Common.{◌≡◌, ℕ, ◌+◌, ◌<◌, ◌==◌, Bool, true, false, not, List, [], ◌∷◌, ◌++◌, length, map, filter, drop, refl, sym, ◌∙◌, ap, subst, arith}
 use Rattle.std.proofs.Math.Seq.{drop-length}
 use Rattle.std.proofs.lemmas.Bool.{eq-eqb, false≢true}
@@ -7,10 +7,10 @@ use Rattle.std.proofs.lemmas.Slice.Eq.{bytes_eq-Decides}
 use Rattle.std.specs.Prelude.{◌&&◌, Option, Some, if◌then◌else◌, is_some, slice_get}
 use Rattle.std.specs.Str.{bytes_eq}
 use Rattle.broker.proofs.Ready.{idle_is}
-use Rattle.broker.specs.Node.{BrokerBook}
-use Rattle.broker_state.specs.declared.write.BookWrite.{BookWrite}
-use Rattle.broker_state.specs.declared.write.BookWrite.TheVariants as book_write
-use Rattle.broker_state.specs.Plan.{PlanBook, name_in}
+use Rattle.broker.specs.Node.{BrokerView}
+use Rattle.broker_state.specs.declared.write.StateWrite.{StateWrite}
+use Rattle.broker_state.specs.declared.write.StateWrite.TheVariants as state_write
+use Rattle.broker_state.specs.Plan.{PlanView, name_in}
 use Rattle.broker_state.specs.Writes.{machine_write}
 use Rattle.geo_base.specs.declared.change.Change.{Change}
 use Rattle.geo_base.specs.declared.change.Change.TheVariants as change
@@ -22,7 +22,7 @@ use Rattle.geo_base.specs.declared.write.Write.TheVariants as write
 use Rattle.geo_base.specs.Broker.{Broker, changed, no_broker, sub_named, written}
 use Rattle.geo_base.specs.Cache.{cached}
 use Rattle.geo_base.specs.Cursor.{backlog_from, mark}
-use Rattle.geo_base.specs.Dispatcher.{given, passed_index}
+use Rattle.geo_base.specs.Dispatcher.{given, skipped_index}
 use Rattle.geo_base.specs.Entry.{is_data}
 use Rattle.geo_base.specs.Happening.{broker_does, happens}
 use Rattle.geo_base.specs.Plan.{Plan, all_changed, all_written, done}
@@ -34,18 +34,18 @@ use Rattle.geo_base.specs.Subscription.{Subscription, after_acks, attached, clea
 use Rattle.geo_base.specs.World.{World, node, topic_at}
 use Rattle.report_lines.proofs.Added.{drop_here}
 use Rattle.script_text.specs.Scenario.{IsEvent}
-use Rattle.step_laws.specs.Steps.{NewEntry, ReportChange, SubGone, SubNow, broker_changes, change_line, gone_subs, new_entries, other_senders, other_subs, same_bool, same_sub, sub_unless_same}
+use Rattle.step_laws.specs.Steps.{NewEntry, ReportChange, SubGone, SubNow, broker_changes, change_line, gone_subs, new_entries, other_replicators, other_subs, same_bool, same_sub, sub_unless_same}
 use Rattle.step_lines.specs.declared.heads.Indent.{Indent}
 use Rattle.step_lines.specs.declared.noted.NotedBroker.{NotedBroker}
 use Rattle.step_lines.specs.Changes.{stood_lines}
-use Rattle.step_lines.specs.Noted.{AreSenders, IsNoted}
-use Rattle.step_lines.specs.Resting.{IsSeen, MayRest, Rests, are_apart, are_of_senders, is_of_sender}
+use Rattle.step_lines.specs.Noted.{AreReplicators, IsNoted}
+use Rattle.step_lines.specs.Resting.{IsSeen, MayRest, Rests, are_apart, are_of_replicators, is_of_replicator}
 use Rattle.world.proofs.Places.{in_range_is, node_below, stands_at}
 use Rattle.world.specs.Foreseen.{IsForeseen}
-use Rattle.world.specs.World.{IsAt, WorldBook, kept_of, node_at}
-use Rattle.world_kept.proofs.Keeping.{done_is, event_plan}
-use Rattle.world_kept.specs.Events.{IsBrokers, cluster_of, node_of, plan_in, topic_of}
-use Rattle.world_kept.specs.Standing.{Stands}
+use Rattle.world.specs.World.{IsAt, WorldView, kept_of, node_at}
+use Rattle.kept_laws.proofs.Keeping.{done_is, event_plan}
+use Rattle.kept_laws.specs.Events.{IsBrokers, cluster_of, node_of, plan_in, topic_of}
+use Rattle.kept_laws.specs.Standing.{Stands}
 use Rattle.world_laws.proofs.Dispatching.SubFrames.{at_name}
 use Rattle.world_laws.proofs.OnceInOrder.Appends.{all_changed_entries}
 use Rattle.world_laws.proofs.Replicating.Effects.{Each, each_map}
@@ -53,17 +53,17 @@ use Rattle.world_laws.proofs.Walks.Walk.{left, right}
 
 -- ---- writes, from one on
 
-write_at : (ws : List BookWrite) (i : ℕ) (w : BookWrite) → slice_get ws i ≡ Some w → are_of_senders (drop i ws) ≡ (is_of_sender w && are_of_senders (drop (i + 1) ws))
-write_at ws i w at = ap are_of_senders (drop_here ws i w at)
+write_at : (ws : List StateWrite) (i : ℕ) (w : StateWrite) → slice_get ws i ≡ Some w → are_of_replicators (drop i ws) ≡ (is_of_replicator w && are_of_replicators (drop (i + 1) ws))
+write_at ws i w at = ap are_of_replicators (drop_here ws i w at)
 
-pub of_senders_here : (ws : List BookWrite) (i : ℕ) (w : BookWrite) (total : Bool) → slice_get ws i ≡ Some w → is_of_sender w ≡ false → are_of_senders (drop i ws) ≡ total → false ≡ total
-of_senders_here ws i w total at other before = sym (ap (λ (b : Bool). b && are_of_senders (drop (i + 1) ws)) other) ∙ (sym (write_at ws i w at) ∙ before)
+pub of_replicators_here : (ws : List StateWrite) (i : ℕ) (w : StateWrite) (total : Bool) → slice_get ws i ≡ Some w → is_of_replicator w ≡ false → are_of_replicators (drop i ws) ≡ total → false ≡ total
+of_replicators_here ws i w total at other before = sym (ap (λ (b : Bool). b && are_of_replicators (drop (i + 1) ws)) other) ∙ (sym (write_at ws i w at) ∙ before)
 
-pub of_senders_next : (ws : List BookWrite) (i : ℕ) (w : BookWrite) (total : Bool) → slice_get ws i ≡ Some w → is_of_sender w ≡ true → are_of_senders (drop i ws) ≡ total
-    → are_of_senders (drop (i + 1) ws) ≡ total
-of_senders_next ws i w total at same before = sym (ap (λ (b : Bool). b && are_of_senders (drop (i + 1) ws)) same) ∙ (sym (write_at ws i w at) ∙ before)
+pub of_replicators_next : (ws : List StateWrite) (i : ℕ) (w : StateWrite) (total : Bool) → slice_get ws i ≡ Some w → is_of_replicator w ≡ true → are_of_replicators (drop i ws) ≡ total
+    → are_of_replicators (drop (i + 1) ws) ≡ total
+of_replicators_next ws i w total at same before = sym (ap (λ (b : Bool). b && are_of_replicators (drop (i + 1) ws)) same) ∙ (sym (write_at ws i w at) ∙ before)
 
--- ---- what changes in memory and writes of senders leave of subscriptions
+-- ---- what changes in memory and writes of replicators leave of subscriptions
 
 mapped_rest : (f : Subscription → Subscription) → ((v : Subscription) → cleared (f v) ≡ cleared v) → (vs : List Subscription) → map cleared (map f vs) ≡ map cleared vs
 mapped_rest f same [] = refl
@@ -84,7 +84,7 @@ change_rests : (b : Broker) (c : Change) → map cleared (changed b c).subs ≡ 
 change_rests b (change.Attach n k) = at_rest b n (attached k) (λ v. refl)
 change_rests b (change.Detach c) = mapped_rest (detached c) (λ v. refl) b.subs
 change_rests b (change.Permit n c permits) = at_rest b n (permitted c permits) (λ v. refl)
-change_rests b (change.Passed n i) = at_rest b n (passed_index i) (λ v. refl)
+change_rests b (change.Skipped n i) = at_rest b n (skipped_index i) (λ v. refl)
 change_rests b (change.Given n i at) = at_rest b n (given i at) (λ v. refl)
 change_rests b (change.Cache n c) = at_rest b n (λ s. record s { cache = cached s.cache c }) (λ v. refl)
 change_rests b (change.Acked n) = at_rest b n after_acks (λ v. refl)
@@ -96,24 +96,24 @@ changes_rest : (b : Broker) (cs : List Change) → map cleared (all_changed b cs
 changes_rest b [] = refl
 changes_rest b (c ∷ cs) = changes_rest (changed b c) cs ∙ change_rests b c
 
--- writes of senders change neither entries nor subscriptions
+-- writes of replicators change neither entries nor subscriptions
 record SameParts (b a : Broker) : Type 0 where
   entries : a.entries ≡ b.entries
   subs : a.subs ≡ b.subs
 
-writes_rest : (per : ℕ) (n : List ℕ) (es : List Entry) (b : Broker) (ws : List BookWrite) → are_of_senders ws ≡ true → SameParts b (all_written per b (map (machine_write n es) ws))
+writes_rest : (per : ℕ) (n : List ℕ) (es : List Entry) (b : Broker) (ws : List StateWrite) → are_of_replicators ws ≡ true → SameParts b (all_written per b (map (machine_write n es) ws))
 writes_rest per n es b [] h = record { entries = refl; subs = refl }
-writes_rest per n es b (book_write.SenderAck y i ∷ ws) h =
-    let rest = writes_rest per n es (written per b (write.SenderAck y i)) ws h in record { entries = rest.entries; subs = rest.subs }
-writes_rest per n es b (book_write.SessionNumber y session ∷ ws) h =
+writes_rest per n es b (state_write.ReplicatorAck y i ∷ ws) h =
+    let rest = writes_rest per n es (written per b (write.ReplicatorAck y i)) ws h in record { entries = rest.entries; subs = rest.subs }
+writes_rest per n es b (state_write.SessionNumber y session ∷ ws) h =
     let rest = writes_rest per n es (written per b (write.SessionNumber y session)) ws h in record { entries = rest.entries; subs = rest.subs }
-writes_rest per n es b (book_write.Append e stream ∷ ws) h = absurd (false≢true h)
-writes_rest per n es b (book_write.Create s latest ∷ ws) h = absurd (false≢true h)
-writes_rest per n es b (book_write.Delete ∷ ws) h = absurd (false≢true h)
-writes_rest per n es b (book_write.Sub w ∷ ws) h = absurd (false≢true h)
-writes_rest per n es b (book_write.Ledger ∷ ws) h = absurd (false≢true h)
+writes_rest per n es b (state_write.Append e stream ∷ ws) h = absurd (false≢true h)
+writes_rest per n es b (state_write.Create s latest ∷ ws) h = absurd (false≢true h)
+writes_rest per n es b (state_write.Delete ∷ ws) h = absurd (false≢true h)
+writes_rest per n es b (state_write.Sub w ∷ ws) h = absurd (false≢true h)
+writes_rest per n es b (state_write.Ledger ∷ ws) h = absurd (false≢true h)
 
-done_rests : (per : ℕ) (b : Broker) (q : Plan) (n : List ℕ) (ws : List BookWrite) → map (machine_write n b.entries) ws ≡ q.writes → are_of_senders ws ≡ true → are_apart b.subs ≡ true
+done_rests : (per : ℕ) (b : Broker) (q : Plan) (n : List ℕ) (ws : List StateWrite) → map (machine_write n b.entries) ws ≡ q.writes → are_of_replicators ws ≡ true → are_apart b.subs ≡ true
     → Rests b (done per b q)
 done_rests per b q n ws is alone apart =
     let wrote = subst (λ (vs : _). SameParts b (all_written per b vs)) is (writes_rest per n b.entries b ws alone) in
@@ -213,21 +213,21 @@ other_rest b a (v ∷ xs) (u ∷ ys) entries same found =
     ∙ (ap (λ (t : Bool). (if t then [] else SubNow u.name (sub_line a u) ∷ []) ++ other_subs b a ys) (sub_rests b a v u entries part)
     ∙ other_rest b a xs ys entries (ap rest_of same) found.1)
 
-rest_changes : (names : List (List ℕ)) (own : ℕ) (b a : Broker) → Rests b a → other_senders own 0 names b a ≡ broker_changes names own b a
+rest_changes : (names : List (List ℕ)) (own : ℕ) (b a : Broker) → Rests b a → other_replicators own 0 names b a ≡ broker_changes names own b a
 rest_changes names own b a rests =
     let found = all_found b.subs rests.apart in let n = length b.entries in
     let none : new_entries names b a ≡ [] =
     ap (λ (es : List Entry). map (λ (line : List ℕ). NewEntry line) (entry_lines names a.ledgers n es)) (ap (drop n) rests.entries ∙ drop-length b.entries) in
     let gone : gone_subs b a ≡ [] = gone_rest b a b.subs rests.subs found in
     let others : other_subs b a a.subs ≡ [] = other_rest b a b.subs a.subs rests.entries rests.subs found in
-    let senders = other_senders own 0 names b a in
+    let replicators = other_replicators own 0 names b a in
     sym
-    (ap (λ (cs : List ReportChange). cs ++ (senders ++ (gone_subs b a ++ other_subs b a a.subs))) none
-    ∙ (ap (λ (cs : List ReportChange). senders ++ (cs ++ other_subs b a a.subs)) gone
-    ∙ (ap (λ (cs : List ReportChange). senders ++ cs) others ∙ append-nil senders)))
+    (ap (λ (cs : List ReportChange). cs ++ (replicators ++ (gone_subs b a ++ other_subs b a a.subs))) none
+    ∙ (ap (λ (cs : List ReportChange). replicators ++ (cs ++ other_subs b a a.subs)) gone
+    ∙ (ap (λ (cs : List ReportChange). replicators ++ cs) others ∙ append-nil replicators)))
 
 pub rest_lines : (names : List (List ℕ)) (own : ℕ) (b a : Broker) (i : Indent) (old : List ℕ) → Rests b a
-    → old ++ stood_lines i (map change_line (other_senders own 0 names b a)) ≡ old ++ stood_lines i (map change_line (broker_changes names own b a))
+    → old ++ stood_lines i (map change_line (other_replicators own 0 names b a)) ≡ old ++ stood_lines i (map change_line (broker_changes names own b a))
 rest_lines names own b a i old rests = ap (λ (cs : List ReportChange). old ++ stood_lines i (map change_line cs)) (rest_changes names own b a rests)
 
 -- ---- an event's broker
@@ -237,16 +237,16 @@ does_at : (s : Setup) (w : World) (p : Planned) → p.plan.idle ≡ false → no
 unfolding broker_does
 does_at s w p busy lt = rw busy (get_or-set_same w.brokers (node s p.topic p.cluster) (done s.per_ledger (topic_at s w p.topic p.cluster) p.plan) no_broker lt)
 
-pub rests_after : (s : Setup) (w : World) (old new : WorldBook) (e : Event) (p : PlanBook) → IsBrokers e → IsEvent s e → IsAt s old → IsAt s new → Stands s (kept_of old) w
-    → Stands s (kept_of new) (happens s w e) → IsForeseen s w e (node_at old.nodes (node_of s e)) p → p.idle ≡ false → are_of_senders p.writes ≡ true
-    → are_apart (node_at old.nodes (node_of s e)).broker.subs ≡ true → Rests (node_at old.nodes (node_of s e)).broker (node_at new.nodes (node_of s e)).broker
+pub rests_after : (s : Setup) (w : World) (old new : WorldView) (e : Event) (p : PlanView) → IsBrokers e → IsEvent s e → IsAt s old → IsAt s new → Stands s (kept_of old) w
+    → Stands s (kept_of new) (happens s w e) → IsForeseen s w e (node_at old.brokers (node_of s e)) p → p.idle ≡ false → are_of_replicators p.writes ≡ true
+    → are_apart (node_at old.brokers (node_of s e)).broker.subs ≡ true → Rests (node_at old.brokers (node_of s e)).broker (node_at new.brokers (node_of s e)).broker
 rests_after s w old new e p brokers here at at' stands stands' f busy alone apart =
-    let n = node_of s e in let v : BrokerBook = node_at old.nodes n in let a : Broker = (node_at new.nodes n).broker in let y = topic_of s e in let x = cluster_of e in
+    let n = node_of s e in let v : BrokerView = node_at old.brokers n in let a : Broker = (node_at new.brokers n).broker in let y = topic_of s e in let x = cluster_of e in
     let low = node_below s old e at brokers here in
     let before : v.broker ≡ topic_at s w y x = stands_at s old w n stands low in
     let behind : a ≡ topic_at s (happens s w e) y x = stands_at s new (happens s w e) n stands' (node_below s new e at' brokers here) in
     let there : n < length w.brokers =
-    subst (λ (m : ℕ). n < m) (sym (length-map old.nodes (λ (u : BrokerBook). u.broker)) ∙ ap (λ (bs : List Broker). length bs) stands.brokers) low in
+    subst (λ (m : ℕ). n < m) (sym (length-map old.brokers (λ (u : BrokerView). u.broker)) ∙ ap (λ (bs : List Broker). length bs) stands.brokers) low in
     let idle : (plan_in s w e).idle ≡ false = sym (idle_is v.site v.broker (plan_in s w e) p f.prepared) ∙ busy in
     let did : topic_at s (happens s w e) y x ≡ done s.per_ledger (topic_at s w y x) (plan_in s w e) =
     ap (λ (u : World). topic_at s u y x) (done_is s w e brokers (in_range_is s e here)) ∙ does_at s w (event_plan s w e) idle there in
@@ -258,14 +258,14 @@ pub may_rest : (r : Bool) (b a : Broker) → (r ≡ true → Rests b a) → MayR
 may_rest true b a rests = rests refl
 may_rest false b a rests = tt
 
-pub seen_many : (r : Bool) (n : ℕ) (b : Broker) (k : NotedBroker) → IsSeen r n b k → length k.senders.items ≡ n
+pub seen_many : (r : Bool) (n : ℕ) (b : Broker) (k : NotedBroker) → IsSeen r n b k → length k.replicators.items ≡ n
 seen_many true n b k seen = seen.many
-seen_many false n b k seen = seen.senders.many
+seen_many false n b k seen = seen.replicators.many
 
 -- what is noted and known where it is known whether it rests
-pub as_senders : (r : Bool) (n : ℕ) (b : Broker) (k : NotedBroker) → r ≡ true → IsSeen r n b k → AreSenders n b k.senders.items
-as_senders true n b k is seen = seen
-as_senders false n b k is seen = absurd (false≢true is)
+pub as_replicators : (r : Bool) (n : ℕ) (b : Broker) (k : NotedBroker) → r ≡ true → IsSeen r n b k → AreReplicators n b k.replicators.items
+as_replicators true n b k is seen = seen
+as_replicators false n b k is seen = absurd (false≢true is)
 
 pub as_noted : (r : Bool) (n : ℕ) (b : Broker) (k : NotedBroker) → r ≡ false → IsSeen r n b k → IsNoted n b k
 as_noted true n b k is seen = absurd (false≢true (sym is))

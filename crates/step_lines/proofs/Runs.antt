@@ -23,7 +23,7 @@ use Rattle.world.specs.Runs.{at_world}
 use Rattle.world.specs.Settling.{settled_by}
 use Rattle.world.proofs.ManySteps.{stays}
 
--- ---- lines behind lines
+-- ---- lines after lines
 
 feeds_both : (ls ms : List (List ℕ)) → with_line_feeds (ls ++ ms) ≡ with_line_feeds ls ++ with_line_feeds ms
 feeds_both [] ms = refl

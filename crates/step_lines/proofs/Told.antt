@@ -1,12 +1,11 @@
 -- What is told of a step in parts, its head and then what changed, is what the definition has of it.
-use Rattle.std.proofs.Common.{◌≡◌, ℕ, suc, zero, ◌+◌, ◌<◌, ◌==◌, Bool, true, false, List, [], ◌∷◌, ◌++◌, length, map, drop, append_assoc, refl, sym, ◌∙◌, ap, subst, arith}
+use Rattle.std.proofs.Common.{◌≡◌, ℕ, ◌+◌, ◌<◌, ◌==◌, Bool, true, false, List, [], ◌∷◌, ◌++◌, length, map, drop, append_assoc, refl, sym, ◌∙◌, ap, subst}
 use Rattle.std.proofs.lemmas.Bool.{eq-eqb}
-use Rattle.std.proofs.lemmas.Bool.Decides.{nat_tests}
 use Rattle.std.proofs.lemmas.List.{append-nil}
 use Rattle.std.specs.Prelude.{Ok, Err, OnOk, Option, Result, codes, decimal, if◌then◌else◌, slice_index_or}
-use Rattle.broker.specs.Node.{BrokerBook}
+use Rattle.broker.specs.Node.{BrokerView}
 use Rattle.broker.proofs.Ready.{idle_is}
-use Rattle.broker_state.specs.Plan.{PlanBook}
+use Rattle.broker_state.specs.Plan.{PlanView}
 use Rattle.geo_base.specs.declared.event.Event.{Event}
 use Rattle.geo_base.specs.declared.event.Event.TheVariants as event
 use Rattle.geo_base.specs.declared.event.Step.TheVariants as step
@@ -35,18 +34,21 @@ use Rattle.step_lines.specs.Texts.{telling_of}
 use Rattle.step_lines.specs.Telling.{IsActed, IsClients, IsTelling, Telling, client_step, first_said, next_number, tells_at, tells_begin, tells_changed, tells_done, tells_event, tells_head, tells_settling, tells_step}
 use Rattle.world.specs.declared.fault.RunFault.{RunFault}
 use Rattle.world.specs.declared.fault.RunFault.TheVariants as fault
-use Rattle.world.specs.ClientSteps.{client_in as book_client}
+use Rattle.world.specs.ClientSteps.{client_in as log_client}
 use Rattle.world.specs.Foreseen.{IsForeseen}
 use Rattle.world.specs.Settling.{settled_by}
-use Rattle.world.specs.Steps.{place_at}
-use Rattle.world.specs.World.{IsAt, SameWorld, WorldBook, kept_of, node_at}
-use Rattle.world.specs.declared.place.Place.{Place}
+use Rattle.world.specs.Steps.{broker_ref_at}
+use Rattle.world.specs.World.{IsAt, SameWorld, WorldView, kept_of, node_at}
+use Rattle.world.specs.declared.broker_ref.BrokerRef.{BrokerRef}
 use Rattle.world.proofs.ClientEvents.{client_below}
 use Rattle.world.proofs.Places.{in_range_is, node_below, node_is, stands_at}
-use Rattle.world_kept.proofs.Keeping.{done_is, event_plan, planned_is}
-use Rattle.world_kept.specs.Events.{IsBrokers, cluster_of, node_of, plan_in, topic_of}
-use Rattle.world_kept.specs.Kept.{Kept, idled}
-use Rattle.world_kept.specs.Standing.{Stands}
+use Rattle.kept_laws.proofs.Keeping.{done_is, event_plan, planned_is}
+use Rattle.kept_laws.specs.Events.{IsBrokers, cluster_of, node_of, plan_in, topic_of}
+use Rattle.kept_laws.specs.Kept.{Kept, idled}
+use Rattle.kept_laws.specs.Standing.{Stands}
+use Rattle.geo_base.proofs.Lists.{index_or_any}
+use Rattle.geo_base.proofs.Sums.{eq_apart, eq_next}
+pub use Rattle.geo_base.proofs.Results.{on_ok_always as always, on_ok_to as on_ok}
 
 -- ---- lines
 
@@ -156,14 +158,11 @@ client_in s c (event.Restart t x) h here = absurd h
 
 -- ---- whether it is idle
 
-next_differs : (n : ℕ) → ((n + 1) == n) ≡ false
-next_differs n = grind (arith, nat_tests)
-
 does_busy : (s : Setup) (w : World) (p : Planned) → p.plan.idle ≡ false → ((broker_does s w p).events == w.events) ≡ false
 unfolding broker_does
-does_busy s w p is = rw is (next_differs w.events)
+does_busy s w p is = rw is (eq_next w.events)
 
-event_busy : (s : Setup) (w : World) (e : Event) (v : BrokerBook) (p : PlanBook) → IsBrokers e → IsEvent s e → IsForeseen s w e v p → p.idle ≡ false
+event_busy : (s : Setup) (w : World) (e : Event) (v : BrokerView) (p : PlanView) → IsBrokers e → IsEvent s e → IsForeseen s w e v p → p.idle ≡ false
     → ((happens s w e).events == w.events) ≡ false
 event_busy s w e v p brokers here f is =
     let within = in_range_is s e here in
@@ -171,14 +170,14 @@ event_busy s w e v p brokers here f is =
 
 halts_busy : (s : Setup) (w : World) (k : ℕ) (p : Planned) → ((broker_halts s w k p).events == w.events) ≡ false
 unfolding broker_halts
-halts_busy s w k p = next_differs w.events
+halts_busy s w k p = eq_next w.events
 
 halt_busy : (s : Setup) (w : World) (k : ℕ) (e : Event) → IsBrokers e → IsEvent s e → ((halts_planned s w k (planned s w e)).events == w.events) ≡ false
 halt_busy s w k e brokers here =
     ap (λ (o : Option Planned). (halts_planned s w k o).events == w.events) (planned_is s w e brokers (in_range_is s e here)) ∙ halts_busy s w k (event_plan s w e)
 
 -- one that was not enabled
-pub rests : (i : Indent) (s : Setup) (old mid : WorldBook) (w : World) (e : Event) (t : Telling) → SameWorld old mid → Stands s (kept_of old) w → Stands s (idled (kept_of mid)) (happens s w e)
+pub rests : (i : Indent) (s : Setup) (old mid : WorldView) (w : World) (e : Event) (t : Telling) → SameWorld old mid → Stands s (kept_of old) w → Stands s (idled (kept_of mid)) (happens s w e)
     → IsActed i s w e t t (Ok false)
 rests i s old mid w e t same stands next =
     (refl, eq-eqb (happens s w e).events w.events (sym next.events ∙ (ap (λ (k : Kept). k.events) same.kept ∙ stands.events)))
@@ -190,12 +189,12 @@ done_is_at : (i : Indent) (s : Setup) (w v : World) (e : Event) (t : Telling) �
 done_is_at i s w v e t brokers = ap (λ (n : Node). tells_changed i s v.events e (changed_at s w v n) t) (broker_node s e brokers)
 
 -- the broker of an event, noted in a world that stands for w, and told in one that stands for v
-told_between : (i : Indent) (s : Setup) (w v : World) (old new : WorldBook) (e : Event) (t u : Telling) → IsBrokers e → IsEvent s e → IsAt s old → IsAt s new
+told_between : (i : Indent) (s : Setup) (w v : World) (old new : WorldView) (e : Event) (t u : Telling) → IsBrokers e → IsEvent s e → IsAt s old → IsAt s new
     → Stands s (kept_of old) w → Stands s (kept_of new) v
-    → u ≡ tells_at i s new.events e (node_at old.nodes (node_of s e)).broker (node_at new.nodes (node_of s e)).broker t
+    → u ≡ tells_at i s new.events e (node_at old.brokers (node_of s e)).broker (node_at new.brokers (node_of s e)).broker t
     → u ≡ tells_done i s w v e t
 told_between i s w v old new e t u brokers here at at' stands stands' told =
-    let n = node_of s e in let b = (node_at old.nodes n).broker in let a = (node_at new.nodes n).broker in
+    let n = node_of s e in let b = (node_at old.brokers n).broker in let a = (node_at new.brokers n).broker in
     let before : b ≡ topic_at s w (topic_of s e) (cluster_of e) = stands_at s old w n stands (node_below s old e at brokers here) in
     let behind : a ≡ topic_at s v (topic_of s e) (cluster_of e) = stands_at s new v n stands' (node_below s new e at' brokers here) in
     told
@@ -203,17 +202,17 @@ told_between i s w v old new e t u brokers here at at' stands stands' told =
     ∙ (ap (λ (c : Broker). tells_at i s v.events e c a t) before
     ∙ (ap (λ (c : Broker). tells_at i s v.events e (topic_at s w (topic_of s e) (cluster_of e)) c t) behind ∙ sym (done_is_at i s w v e t brokers))))
 
-pub acted : (i : Indent) (s : Setup) (w : World) (old new : WorldBook) (e : Event) (p : PlanBook) (t u : Telling) → IsBrokers e → IsEvent s e → IsAt s old → IsAt s new
-    → Stands s (kept_of old) w → Stands s (kept_of new) (happens s w e) → IsForeseen s w e (node_at old.nodes (node_of s e)) p → p.idle ≡ false
-    → u ≡ tells_at i s new.events e (node_at old.nodes (node_of s e)).broker (node_at new.nodes (node_of s e)).broker t
+pub acted : (i : Indent) (s : Setup) (w : World) (old new : WorldView) (e : Event) (p : PlanView) (t u : Telling) → IsBrokers e → IsEvent s e → IsAt s old → IsAt s new
+    → Stands s (kept_of old) w → Stands s (kept_of new) (happens s w e) → IsForeseen s w e (node_at old.brokers (node_of s e)) p → p.idle ≡ false
+    → u ≡ tells_at i s new.events e (node_at old.brokers (node_of s e)).broker (node_at new.brokers (node_of s e)).broker t
     → IsActed i s w e t u (Ok true)
 acted i s w old new e p t u brokers here at at' stands stands' foreseen busy told =
-    (told_between i s w (happens s w e) old new e t u brokers here at at' stands stands' told, event_busy s w e (node_at old.nodes (node_of s e)) p brokers here foreseen busy)
+    (told_between i s w (happens s w e) old new e t u brokers here at at' stands stands' told, event_busy s w e (node_at old.brokers (node_of s e)) p brokers here foreseen busy)
 
 -- a stop in its midst
-pub halted : (s : Setup) (w : World) (count : ℕ) (old new : WorldBook) (e : Event) (t u : Telling) → IsBrokers e → IsEvent s e → IsAt s old → IsAt s new
+pub halted : (s : Setup) (w : World) (count : ℕ) (old new : WorldView) (e : Event) (t u : Telling) → IsBrokers e → IsEvent s e → IsAt s old → IsAt s new
     → Stands s (kept_of old) w → Stands s (kept_of new) (halts_planned s w count (planned s w e))
-    → u ≡ tells_at indent.Step s new.events e (node_at old.nodes (node_of s e)).broker (node_at new.nodes (node_of s e)).broker t
+    → u ≡ tells_at indent.Step s new.events e (node_at old.brokers (node_of s e)).broker (node_at new.brokers (node_of s e)).broker t
     → u ≡ tells_step s t (did_or_idle s w (halts_planned s w count (planned s w e)) e)
 halted s w count old new e t u brokers here at at' stands stands' told =
     let v = halts_planned s w count (planned s w e) in
@@ -265,7 +264,7 @@ client_whole s c k m t mid new head told =
     told
     ∙ (ap (λ (n : Telling). with_lines n indent.Step (map change_line cs)) head ∙ step_whole s (unless_none (ClientNode c) cs) (map change_line cs) t (client_lines_are s c cs))
 
-pub client_told : (s : Setup) (c : ℕ) (e : Event) (w : World) (old new : WorldBook) (k m : Client) (t u : Telling) → IsClients c e → Stands s (kept_of old) w → Stands s (kept_of new) (happens s w e)
+pub client_told : (s : Setup) (c : ℕ) (e : Event) (w : World) (old new : WorldView) (k m : Client) (t u : Telling) → IsClients c e → Stands s (kept_of old) w → Stands s (kept_of new) (happens s w e)
     → k ≡ client_at s w c → m ≡ client_at s (happens s w e) c → u ≡ tells_step s t (client_step s c (new.events == old.events) k m)
     → u ≡ tells_step s t (did_or_idle s w (happens s w e) e)
 client_told s c e w old new k m t u clients before behind is is' told =
@@ -290,10 +289,6 @@ wanting T = Err fault.Memory
 pub wants_no_limit : (T X : Type 0) (n : ℕ) → wanting T ≡ Err (fault.TooLarge n) → X
 wants_no_limit T X n is = absurd (subst (λ (a : Result T RunFault). IsWant a) is tt)
 
-pub always : {E : Type 0} (X : Type 0) (r : Result (Unit {0}) E) → X → OnOk r X
-always {E} X (Ok u) x = x
-always {E} X (Err f) x = tt
-
 abbrev answering : Bool → Result Bool RunFault
 answering b = Ok b
 
@@ -305,76 +300,64 @@ abbrev IsAnswer : Result Bool RunFault → Type 0
 IsAnswer (Ok b) = Unit {0}
 IsAnswer (Err f) = ⊥
 
-pub ok_passes_none : {X : Type 0} {b : Bool} {n : ℕ} → answering b ≡ Err (fault.TooLarge n) → X
-ok_passes_none is = absurd (subst (λ (a : Result Bool RunFault). IsAnswer a) is tt)
+pub ok_exceeds_none : {X : Type 0} {b : Bool} {n : ℕ} → answering b ≡ Err (fault.TooLarge n) → X
+ok_exceeds_none is = absurd (subst (λ (a : Result Bool RunFault). IsAnswer a) is tt)
 
 -- ---- where the text is as before
 
 pub from_same : (s : Setup) (old new : StepText) → new ≡ old → IsTelling s old.names old.number old.said → IsTelling s new.names new.number new.said
 from_same s old new is h = subst (λ (t : StepText). IsTelling s t.names t.number t.said) (sym is) h
 
-pub from_text : (i : Indent) (s : Setup) (b : WorldBook) (e : Event) (c : Broker) (old mid : StepText) (u : Telling) → mid ≡ old
-    → u ≡ tells_at i s b.events e c (node_at b.nodes (node_of s e)).broker (telling_of mid) → u ≡ tells_at i s b.events e c (node_at b.nodes (node_of s e)).broker (telling_of old)
-from_text i s b e c old mid u is told = told ∙ ap (λ (t : StepText). tells_at i s b.events e c (node_at b.nodes (node_of s e)).broker (telling_of t)) is
+pub from_text : (i : Indent) (s : Setup) (b : WorldView) (e : Event) (c : Broker) (old mid : StepText) (u : Telling) → mid ≡ old
+    → u ≡ tells_at i s b.events e c (node_at b.brokers (node_of s e)).broker (telling_of mid) → u ≡ tells_at i s b.events e c (node_at b.brokers (node_of s e)).broker (telling_of old)
+from_text i s b e c old mid u is told = told ∙ ap (λ (t : StepText). tells_at i s b.events e c (node_at b.brokers (node_of s e)).broker (telling_of t)) is
 
 -- ---- the broker of an event
 
-index_any : {X : Type 0} (xs : List X) (k : ℕ) (d e : X) → k < length xs → slice_index_or xs k d ≡ slice_index_or xs k e
-index_any [] k d e lt = absurd (omega (arith, lt))
-index_any (x ∷ xs) zero d e lt = refl
-index_any (x ∷ xs) (suc k) d e lt = index_any xs k d e (omega (arith, lt))
-
-pub place_there : (s : Setup) (e : Event) (nodes : List BrokerBook) (place : Place) (u : BrokerBook) → place ≡ place_at s e → u ≡ node_at nodes (node s place.topic place.cluster)
-    → u ≡ node_at nodes (node_of s e)
-place_there s e nodes place u at is = is ∙ ap (λ (a : Place). node_at nodes (node s a.topic a.cluster)) at
+pub place_there : (s : Setup) (e : Event) (brokers : List BrokerView) (broker_ref : BrokerRef) (u : BrokerView) → broker_ref ≡ broker_ref_at s e → u ≡ node_at brokers (node s broker_ref.topic broker_ref.cluster)
+    → u ≡ node_at brokers (node_of s e)
+place_there s e brokers broker_ref u at is = is ∙ ap (λ (a : BrokerRef). node_at brokers (node s a.topic a.cluster)) at
 
 abbrev SeenAs : Bool → ℕ → Broker → NotedBroker → Result (Unit {0}) Memory → Type 0
 SeenAs rests n b k r = OnOk r (IsSeen rests n b k)
 
-pub noted_there : (rests : Bool) (s : Setup) (old : WorldBook) (e : Event) (u : BrokerBook) (k : NotedBroker) (r : Result (Unit {0}) Memory) → IsAt s old → IsBrokers e → IsEvent s e
-    → u ≡ node_at old.nodes (node_of s e) → OnOk r (IsSeen rests (length u.site.clusters) u.broker k) → OnOk r (IsSeen rests (length s.clusters) (node_at old.nodes (node_of s e)).broker k)
+pub noted_there : (rests : Bool) (s : Setup) (old : WorldView) (e : Event) (u : BrokerView) (k : NotedBroker) (r : Result (Unit {0}) Memory) → IsAt s old → IsBrokers e → IsEvent s e
+    → u ≡ node_at old.brokers (node_of s e) → OnOk r (IsSeen rests (length u.site.clusters) u.broker k) → OnOk r (IsSeen rests (length s.clusters) (node_at old.brokers (node_of s e)).broker k)
 noted_there rests s old e u k r at brokers here is noted =
-    let v = node_at old.nodes (node_of s e) in
+    let v = node_at old.brokers (node_of s e) in
     let site : v.site.clusters ≡ s.clusters = ap (λ (h : Site). h.clusters) (node_is s old e at brokers here).site in
-    subst (λ (names : List (List ℕ)). SeenAs rests (length names) v.broker k r) site (subst (λ (z : BrokerBook). SeenAs rests (length z.site.clusters) z.broker k r) is noted)
+    subst (λ (names : List (List ℕ)). SeenAs rests (length names) v.broker k r) site (subst (λ (z : BrokerView). SeenAs rests (length z.site.clusters) z.broker k r) is noted)
 
-pub told_here : (rests : Bool) (i : Indent) (s : Setup) (names : Names) (old : WorldBook) (e : Event) (b : Broker) (u : BrokerBook) (k : NotedBroker) (topic : List ℕ) (number : ℕ) (t mid : Telling) (lines : List ℕ)
-    (r : Result (Unit {0}) Memory) → names ≡ names_of s → IsAt s old → IsBrokers e → IsEvent s e → u ≡ node_at old.nodes (node_of s e) → number ≡ old.events → topic ≡ topic_name s (topic_of s e)
+pub told_here : (rests : Bool) (i : Indent) (s : Setup) (names : Names) (old : WorldView) (e : Event) (b : Broker) (u : BrokerView) (k : NotedBroker) (topic : List ℕ) (number : ℕ) (t mid : Telling) (lines : List ℕ)
+    (r : Result (Unit {0}) Memory) → names ≡ names_of s → IsAt s old → IsBrokers e → IsEvent s e → u ≡ node_at old.brokers (node_of s e) → number ≡ old.events → topic ≡ topic_name s (topic_of s e)
     → mid ≡ tells_begin i names number e t
     → (IsSeen rests (length u.site.clusters) b k → MayRest rests b u.broker
     → OnOk r (lines ≡ mid.text ++ stood_lines i (placed (place_line topic (slice_index_or u.site.clusters u.site.own [])) (broker_changes u.site.clusters u.site.own b u.broker))))
-    → IsSeen rests (length s.clusters) b k → MayRest rests b (node_at old.nodes (node_of s e)).broker → OnOk r (record mid { text = lines } ≡ tells_at i s old.events e b (node_at old.nodes (node_of s e)).broker t)
+    → IsSeen rests (length s.clusters) b k → MayRest rests b (node_at old.brokers (node_of s e)).broker → OnOk r (record mid { text = lines } ≡ tells_at i s old.events e b (node_at old.brokers (node_of s e)).broker t)
 told_here rests i s names old e b u k topic number t mid lines (Err f) named at brokers here is counts titled begun told noted rested = tt
 told_here rests i s names old e b u k topic number t mid lines (Ok unit) named at brokers here is counts titled begun told noted rested =
-    let v = node_at old.nodes (node_of s e) in let y = topic_of s e in let x = cluster_of e in
-    let place : v.site ≡ site s y x = (node_is s old e at brokers here).site in
+    let v = node_at old.brokers (node_of s e) in let y = topic_of s e in let x = cluster_of e in
+    let broker_ref : v.site ≡ site s y x = (node_is s old e at brokers here).site in
     let under : Site → Broker → List ℕ → List ℕ =
     λ h a title. mid.text ++ stood_lines i (placed (place_line title (slice_index_or h.clusters h.own [])) (broker_changes h.clusters h.own b a)) in
     let known : IsSeen rests (length u.site.clusters) b k =
-    subst (λ (z : BrokerBook). IsSeen rests (length z.site.clusters) b k) (sym is) (subst (λ (h : Site). IsSeen rests (length h.clusters) b k) (sym place) noted) in
+    subst (λ (z : BrokerView). IsSeen rests (length z.site.clusters) b k) (sym is) (subst (λ (h : Site). IsSeen rests (length h.clusters) b k) (sym broker_ref) noted) in
     let all : lines ≡ under (site s y x) v.broker (topic_name s y) =
-    told known (subst (λ (z : BrokerBook). MayRest rests b z.broker) (sym is) rested)
-    ∙ (ap (λ (z : BrokerBook). under z.site z.broker topic) is ∙ (ap (λ (h : Site). under h v.broker topic) place ∙ ap (λ (title : List ℕ). under (site s y x) v.broker title) titled)) in
+    told known (subst (λ (z : BrokerView). MayRest rests b z.broker) (sym is) rested)
+    ∙ (ap (λ (z : BrokerView). under z.site z.broker topic) is ∙ (ap (λ (h : Site). under h v.broker topic) broker_ref ∙ ap (λ (title : List ℕ). under (site s y x) v.broker title) titled)) in
     told_at i s names number e b v.broker t mid (record mid { text = lines }) named begun (ap (λ (z : List ℕ). record mid { text = z }) all)
     ∙ ap (λ (n : ℕ). tells_at i s n e b v.broker t) counts
 
 -- the client of an event, as the machine has it
-pub client_noted : (s : Setup) (b : WorldBook) (w : World) (c : ℕ) (k : Client) → IsAt s b → c < length s.clients → Stands s (kept_of b) w → slice_index_or b.clients c k ≡ k → k ≡ client_at s w c
+pub client_noted : (s : Setup) (b : WorldView) (w : World) (c : ℕ) (k : Client) → IsAt s b → c < length s.clients → Stands s (kept_of b) w → slice_index_or b.clients c k ≡ k → k ≡ client_at s w c
 client_noted s b w c k at lt stands is =
     let within = client_below s b c at lt in
-    sym is ∙ (index_any b.clients c k (new_client (declared_at s c)) within ∙ ap (λ (ks : List Client). slice_index_or ks c (new_client (declared_at s c))) stands.clients)
+    sym is ∙ (index_or_any b.clients c k (new_client (declared_at s c)) within ∙ ap (λ (ks : List Client). slice_index_or ks c (new_client (declared_at s c))) stands.clients)
 
-pub client_seen : (s : Setup) (b : WorldBook) (c : ℕ) (k : Client) → c < length b.clients → slice_index_or b.clients c k ≡ k → k ≡ book_client b.clients c
-client_seen s b c k within is = sym is ∙ index_any b.clients c k _ within
+pub client_seen : (s : Setup) (b : WorldView) (c : ℕ) (k : Client) → c < length b.clients → slice_index_or b.clients c k ≡ k → k ≡ log_client b.clients c
+client_seen s b c k within is = sym is ∙ index_or_any b.clients c k _ within
 
 -- ---- a step of a client, by the counts before and after it
-
-pub on_ok : {E : Type 0} (X Y : Type 0) (r : Result (Unit {0}) E) → (X → Y) → OnOk r X → OnOk r Y
-on_ok {E} X Y (Ok u) f x = f x
-on_ok {E} X Y (Err e) f x = tt
-
-differ : (i j : ℕ) → (i ≡ j → ⊥) → (i == j) ≡ false
-differ i j apart = grind (arith, nat_tests, apart)
 
 pub client_rests : (s : Setup) (c : ℕ) (k m : Client) (t u : Telling) (n b : ℕ) (r : Result (Unit {0}) Memory) → n ≡ b → OnOk r (u ≡ tells_head t true)
     → OnOk r (u ≡ tells_step s t (client_step s c (n == b) k m))
@@ -392,8 +375,8 @@ client_done s c k m seen d t mid lines n b (Ok u) apart is declared head told =
     ∙ (ap (λ (e : Declared). mid.text ++ stood_lines indent.Step (map change_line (told_of_client s e k m))) declared
     ∙ ap (λ (j : Client). mid.text ++ stood_lines indent.Step (map change_line (told_of_client s (declared_at s c) k j))) is) in
     client_whole s c k seen t mid (record mid { text = lines }) head (ap (λ (z : List ℕ). record mid { text = z }) all)
-    ∙ ap (λ (idle : Bool). tells_step s t (client_step s c idle k seen)) (sym (differ n b apart))
+    ∙ ap (λ (idle : Bool). tells_step s t (client_step s c idle k seen)) (sym (eq_apart n b apart))
 
-pub clusters_there : (s : Setup) (old : WorldBook) (e : Event) (u : BrokerBook) (n : ℕ) → IsAt s old → IsBrokers e → IsEvent s e → u ≡ node_at old.nodes (node_of s e) → n ≡ length s.clusters → n ≡ length u.site.clusters
+pub clusters_there : (s : Setup) (old : WorldView) (e : Event) (u : BrokerView) (n : ℕ) → IsAt s old → IsBrokers e → IsEvent s e → u ≡ node_at old.brokers (node_of s e) → n ≡ length s.clusters → n ≡ length u.site.clusters
 clusters_there s old e u n at brokers here is many =
-    many ∙ sym (ap (λ (z : BrokerBook). length z.site.clusters) is ∙ ap (λ (h : Site). length h.clusters) (node_is s old e at brokers here).site)
+    many ∙ sym (ap (λ (z : BrokerView). length z.site.clusters) is ∙ ap (λ (h : Site). length h.clusters) (node_is s old e at brokers here).site)

@@ -12,7 +12,7 @@ spaces indent.Event = 32 ∷ 32 ∷ 32 ∷ 32 ∷ []
 abbrev pub stood : Indent → List ℕ → List ℕ
 stood i line = spaces i ++ line
 
--- lines, each behind its spaces
+-- lines, each after its spaces
 abbrev pub stood_lines : Indent → List (List ℕ) → List ℕ
 stood_lines i ls = with_line_feeds (map (stood i) ls)
 

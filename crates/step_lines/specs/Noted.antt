@@ -1,32 +1,32 @@
 -- What a report shows of a node, noted before an event.
 use Rattle.std.specs.Prelude.{◌≡◌, ℕ, ◌<◌, ◌==◌, ◌&&◌, Bool, false, List, [], ◌∷◌, ◌++◌, length, map, if◌then◌else◌, Option, Some, None, is_some, slice_index_or}
 use Rattle.std.specs.Str.{bytes_eq}
-use Rattle.geo_base.specs.Broker.{Broker, backlog, sender_at, sub_named}
+use Rattle.geo_base.specs.Broker.{Broker, backlog, replicator_at, sub_named}
 use Rattle.geo_base.specs.Client.{Client}
 use Rattle.geo_base.specs.Cursor.{mark}
-use Rattle.geo_base.specs.Report.{client_line, sender_line, sub_line}
-use Rattle.geo_base.specs.Sender.{Sender}
+use Rattle.geo_base.specs.Report.{client_line, replicator_line, sub_line}
+use Rattle.geo_base.specs.Replicator.{Replicator}
 use Rattle.geo_base.specs.Setup.{Declared, Setup}
 use Rattle.geo_base.specs.Subscribing.{same_kind}
 use Rattle.geo_base.specs.Subscription.{Subscription}
 use Rattle.report_lines.specs.declared.lines.SubShown.{SubShown}
-use Rattle.step_laws.specs.Steps.{ClientNow, ReportChange, SenderNow, SubGone, SubNow, new_got, same_bool, same_sender}
+use Rattle.step_laws.specs.Steps.{ClientNow, ReportChange, ReplicatorNow, SubGone, SubNow, new_got, same_bool, same_replicator}
 use Rattle.step_lines.specs.declared.noted.NotedBroker.{NotedBroker}
 use Rattle.step_lines.specs.declared.noted.NotedClient.{NotedClient}
 use Rattle.step_lines.specs.declared.noted.NotedSub.{NotedSub}
-use Rattle.step_lines.specs.declared.senders.NotedSender.{NotedSender}
+use Rattle.step_lines.specs.declared.replicators.NotedReplicator.{NotedReplicator}
 
-abbrev pub noted_of : Sender → NotedSender
+abbrev pub noted_of : Replicator → NotedReplicator
 noted_of s = record { session = s.session; state = s.state; mark = mark s.cursor }
 
--- the senders of so many clusters are noted as they were at a broker
-pub record AreSenders (n : ℕ) (b : Broker) (ks : List NotedSender) : Type 0 where
+-- the replicators of so many clusters are noted as they were at a broker
+pub record AreReplicators (n : ℕ) (b : Broker) (ks : List NotedReplicator) : Type 0 where
   pub many : length ks ≡ n
-  pub each : (y : ℕ) (d : NotedSender) → y < n → slice_index_or ks y d ≡ noted_of (sender_at b y)
+  pub each : (y : ℕ) (d : NotedReplicator) → y < n → slice_index_or ks y d ≡ noted_of (replicator_at b y)
 
--- what is told of the sender to cluster y, whose name is n
-abbrev pub sender_told : ℕ → ℕ → List ℕ → Broker → Broker → List ReportChange
-sender_told own y n b a = if own == y then [] else if same_sender (sender_at b y) (sender_at a y) then [] else SenderNow y (sender_line n (sender_at a y)) ∷ []
+-- what is told of the replicator to cluster y, whose name is n
+abbrev pub replicator_told : ℕ → ℕ → List ℕ → Broker → Broker → List ReportChange
+replicator_told own y n b a = if own == y then [] else if same_replicator (replicator_at b y) (replicator_at a y) then [] else ReplicatorNow y (replicator_line n (replicator_at a y)) ∷ []
 
 -- ---- subscriptions
 
@@ -69,7 +69,7 @@ subs_told a ks (u ∷ us) = sub_told a (shown_named ks u.name) u ++ subs_told a 
 
 pub record IsNoted (n : ℕ) (b : Broker) (k : NotedBroker) : Type 0 where
   pub entries : k.entries ≡ length b.entries
-  pub senders : AreSenders n b k.senders.items
+  pub replicators : AreReplicators n b k.replicators.items
   pub subs : k.subs.items ≡ map (noted_sub b) b.subs
 
 -- ---- a client

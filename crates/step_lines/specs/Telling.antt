@@ -21,7 +21,7 @@ use Rattle.step_lines.specs.declared.heads.Indent.TheVariants as indent
 use Rattle.world.specs.declared.fault.RunFault.{RunFault}
 use Rattle.world.specs.Observing.{Sight}
 use Rattle.world.specs.Settling.{settled_by}
-use Rattle.world_kept.specs.Events.{cluster_of, topic_of}
+use Rattle.kept_laws.specs.Events.{cluster_of, topic_of}
 
 -- the text so far, how many steps it tells, and the lines that say those that are left
 pub record Telling : Type 0 where

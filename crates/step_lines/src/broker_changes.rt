@@ -6,12 +6,12 @@ ghost use Rattle.geo_base.specs.Broker.{Broker as Machine};
 ghost use Rattle.step_laws.specs.Steps.{broker_changes, change_line};
 ghost use Rattle.step_lines.specs.Changes.{place_line, placed, stood_lines};
 ghost use Rattle.step_lines.specs.Resting.{Rests};
-ghost use Rattle.step_lines.specs.Noted.{AreSenders, IsNoted, gone_named, gone_told, same_before, same_shown, shown_named, sub_told, subs_told};
+ghost use Rattle.step_lines.specs.Noted.{AreReplicators, IsNoted, gone_named, gone_told, same_before, same_shown, shown_named, sub_told, subs_told};
 
 use crate::entries::add_new_entries;
 use crate::heads::{Indent, add_place};
 use crate::noted::{NotedBroker, NotedSub, shown_of};
-use crate::senders::{NotedSender, add_other_senders};
+use crate::replicators::{NotedReplicator, add_other_replicators};
 use crate::sub_names::has_sub;
 use broker::Broker;
 use geo_base::{Blob, Memory};
@@ -25,7 +25,7 @@ pub(crate) fn add_broker_changes(
     broker: &Broker,
     noted: &NotedBroker,
 ) -> Result<(), Memory>
-    requires { length noted.now.senders.items ≡ length broker.now.site.clusters }
+    requires { length noted.now.replicators.items ≡ length broker.now.site.clusters }
     ensures { (b : Machine) → IsNoted (length broker.now.site.clusters) b noted.now
         → OnOk result (lines.new ≡ lines.old ++ stood_lines indent (placed (place_line topic.now (slice_index_or broker.now.site.clusters broker.now.site.own []))
         (broker_changes broker.now.site.clusters broker.now.site.own b broker.now.broker))) }
@@ -40,16 +40,16 @@ pub(crate) fn add_broker_changes(
     Ok(())
 }
 
-/// Appends what is other at a broker than it was noted where entries and subscriptions rest: only senders may be other.
-pub(crate) fn add_sender_changes(
+/// Appends what is other at a broker than it was noted where entries and subscriptions rest: only replicators may be other.
+pub(crate) fn add_replicator_changes(
     lines: &mut Blob,
     indent: Indent,
     topic: &str,
     broker: &Broker,
-    noted: &[NotedSender],
+    noted: &[NotedReplicator],
 ) -> Result<(), Memory>
     requires { length noted.now ≡ length broker.now.site.clusters }
-    ensures { (b : Machine) → AreSenders (length broker.now.site.clusters) b noted.now → Rests b broker.now.broker
+    ensures { (b : Machine) → AreReplicators (length broker.now.site.clusters) b noted.now → Rests b broker.now.broker
         → OnOk result (lines.new ≡ lines.old ++ stood_lines indent (placed (place_line topic.now (slice_index_or broker.now.site.clusters broker.now.site.own []))
         (broker_changes broker.now.site.clusters broker.now.site.own b broker.now.broker))) }
 {
@@ -63,33 +63,33 @@ pub(crate) fn add_sender_changes(
     Ok(())
 }
 
-/// Appends the senders that are other than noted, which is all that is other there.
+/// Appends the replicators that are other than noted, which is all that is other there.
 fn add_changes_at_rest(
     lines: &mut Blob,
     indent: Indent,
     broker: &Broker,
-    noted: &[NotedSender],
+    noted: &[NotedReplicator],
 ) -> Result<(), Memory>
     requires { length noted.now ≡ length broker.now.site.clusters }
-    ensures { (b : Machine) → AreSenders (length broker.now.site.clusters) b noted.now → Rests b broker.now.broker
+    ensures { (b : Machine) → AreReplicators (length broker.now.site.clusters) b noted.now → Rests b broker.now.broker
         → OnOk result (lines.new ≡ lines.old ++ stood_lines indent (map change_line (broker_changes broker.now.site.clusters broker.now.site.own b broker.now.broker))) }
 {
-    add_other_senders(lines, indent, broker, noted)
+    add_other_replicators(lines, indent, broker, noted)
 }
 
-/// Appends what is other, in the order of a report: entries, senders, and subscriptions, before which those stand that are gone.
+/// Appends what is other, in the order of a report: entries, replicators, and subscriptions, before which those stand that are gone.
 fn add_changes(
     lines: &mut Blob,
     indent: Indent,
     broker: &Broker,
     noted: &NotedBroker,
 ) -> Result<(), Memory>
-    requires { length noted.now.senders.items ≡ length broker.now.site.clusters }
+    requires { length noted.now.replicators.items ≡ length broker.now.site.clusters }
     ensures { (b : Machine) → IsNoted (length broker.now.site.clusters) b noted.now
         → OnOk result (lines.new ≡ lines.old ++ stood_lines indent (map change_line (broker_changes broker.now.site.clusters broker.now.site.own b broker.now.broker))) }
 {
     add_new_entries(lines, indent, broker, noted.entries)?;
-    add_other_senders(lines, indent, broker, noted.senders.as_slice())?;
+    add_other_replicators(lines, indent, broker, noted.replicators.as_slice())?;
     add_gone_subs(lines, indent, broker, noted.subs.as_slice())?;
     add_other_subs(lines, indent, broker, noted.subs.as_slice())
 }

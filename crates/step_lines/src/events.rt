@@ -14,23 +14,23 @@ ghost use Rattle.step_lines.specs.Telling.{IsActed, IsClients, IsTelling, client
 ghost use Rattle.step_lines.specs.Texts.{telling_of};
 ghost use Rattle.world.specs.ClientSteps.{client_in};
 ghost use Rattle.world.specs.declared.fault.RunFault.TheVariants as fault;
-ghost use Rattle.world.specs.Steps.{Acts, IsLater, Leads, place_at};
+ghost use Rattle.world.specs.Steps.{Acts, IsLater, Leads, broker_ref_at};
 ghost use Rattle.world.specs.World.{IsAt, SameWorld, kept_of, node_at};
-ghost use Rattle.world_kept.specs.Events.{IsBrokers, node_of};
-ghost use Rattle.world_kept.specs.Reached.{Reached};
-ghost use Rattle.world_kept.specs.Standing.{Stands};
+ghost use Rattle.kept_laws.specs.Events.{IsBrokers, node_of};
+ghost use Rattle.kept_laws.specs.Reached.{Reached};
+ghost use Rattle.kept_laws.specs.Standing.{Stands};
 
-use crate::broker_changes::{add_broker_changes, add_sender_changes};
+use crate::broker_changes::{add_broker_changes, add_replicator_changes};
 use crate::client_changes::add_client_changes;
 use crate::heads::{Indent, topic_name};
 use crate::noted::{NotedClient, client_of};
-use crate::sender_writes::writes_senders_alone;
+use crate::replicator_writes::writes_replicators_alone;
 use crate::steps::Steps;
 use crate::sub_names::are_apart;
 use geo_base::{Event, Memory};
 use script_text::{ClientDecl, Scenario};
 use std::alloc::Global;
-use world::{Place, RunFault, World, place_of};
+use world::{BrokerRef, RunFault, World, broker_ref_of};
 
 impl<'a> Steps<'a> {
     /// An event of a client, and what it changed there.
@@ -136,16 +136,16 @@ impl<'a> Steps<'a> {
         ensures idle { result ≡ Ok false → SameWorld world.old world.new }
         ensures past { (n : ℕ) → result ≡ Err (fault.TooLarge n) → SameWorld world.old world.new }
     {
-        let place = place_of(scenario, event);
+        let broker_ref = broker_ref_of(scenario, event);
         self.plan.clear();
-        let is_ready = world.prepare(alloc, scenario, event, place, &mut self.plan)?;
+        let is_ready = world.prepare(alloc, scenario, event, broker_ref, &mut self.plan)?;
         if !is_ready {
             return Ok(false);
         }
-        let may_rest = writes_senders_alone(&self.plan);
-        self.note(alloc, world, scenario, event, place, may_rest)?;
-        world.finish(alloc, scenario, event, place, &mut self.plan)?;
-        self.tell_event(alloc, world, scenario, event, place, indent)?;
+        let may_rest = writes_replicators_alone(&self.plan);
+        self.note(alloc, world, scenario, event, broker_ref, may_rest)?;
+        world.finish(alloc, scenario, event, broker_ref, &mut self.plan)?;
+        self.tell_event(alloc, world, scenario, event, broker_ref, indent)?;
         Ok(true)
     }
 
@@ -170,36 +170,36 @@ impl<'a> Steps<'a> {
         ensures knows { OnOk result (IsTelling scenario.now.setup self.new.telling.names self.new.telling.number self.new.telling.said) }
         ensures past { (n : ℕ) → result ≡ Err (fault.TooLarge n) → SameWorld world.old world.new }
     {
-        let place = place_of(scenario, event);
-        self.note(alloc, world, scenario, event, place, false)?;
+        let broker_ref = broker_ref_of(scenario, event);
+        self.note(alloc, world, scenario, event, broker_ref, false)?;
         world.halt(alloc, scenario, writes, event)?;
-        self.tell_event(alloc, world, scenario, event, place, Indent::Step)?;
+        self.tell_event(alloc, world, scenario, event, broker_ref, Indent::Step)?;
         Ok(())
     }
 
-    /// Notes the broker of an event, its senders alone where it may rest and no two of its subscriptions have one name.
+    /// Notes the broker of an event, its replicators alone where it may rest and no two of its subscriptions have one name.
     fn note(
         &mut self,
         alloc: Global,
         world: &World,
         scenario: &Scenario,
         event: &Event,
-        place: Place,
+        broker_ref: BrokerRef,
         may_rest: bool,
     ) -> Result<(), Memory>
         requires at { IsAt scenario.now.setup world.now }
         requires broker { IsBrokers event.now }
         requires scripted { IsEvent scenario.now.setup event.now }
-        requires place { place ≡ place_at scenario.now.setup event.now }
-        ensures noted { OnOk result (IsSeen self.new.rests (length scenario.now.setup.clusters) (node_at world.now.nodes (node_of scenario.now.setup event.now)).broker self.new.noted) }
-        ensures rests { self.new.rests ≡ true → (may_rest ≡ true) × (are_apart (node_at world.now.nodes (node_of scenario.now.setup event.now)).broker.subs ≡ true) }
+        requires broker_ref { broker_ref ≡ broker_ref_at scenario.now.setup event.now }
+        ensures noted { OnOk result (IsSeen self.new.rests (length scenario.now.setup.clusters) (node_at world.now.brokers (node_of scenario.now.setup event.now)).broker self.new.noted) }
+        ensures rests { self.new.rests ≡ true → (may_rest ≡ true) × (are_apart (node_at world.now.brokers (node_of scenario.now.setup event.now)).broker.subs ≡ true) }
         ensures telling { self.new.telling ≡ self.old.telling }
         ensures plan { self.new.plan ≡ self.old.plan }
     {
-        let broker = world.topic(scenario, place.topic, place.cluster);
+        let broker = world.topic(scenario, broker_ref.topic, broker_ref.cluster);
         self.rests = may_rest && are_apart(broker);
         if self.rests {
-            return self.noted.note_senders(broker);
+            return self.noted.note_replicators(broker);
         }
         self.noted.note(alloc, broker)
     }
@@ -211,26 +211,26 @@ impl<'a> Steps<'a> {
         world: &World,
         scenario: &Scenario,
         event: &Event,
-        place: Place,
+        broker_ref: BrokerRef,
         indent: Indent,
     ) -> Result<(), Memory>
         requires at { IsAt scenario.now.setup world.now }
         requires knows { IsTelling scenario.now.setup self.old.telling.names self.old.telling.number self.old.telling.said }
         requires broker { IsBrokers event.now }
         requires scripted { IsEvent scenario.now.setup event.now }
-        requires place { place ≡ place_at scenario.now.setup event.now }
-        requires noted { length self.old.noted.senders.items ≡ length scenario.now.setup.clusters }
+        requires broker_ref { broker_ref ≡ broker_ref_at scenario.now.setup event.now }
+        requires noted { length self.old.noted.replicators.items ≡ length scenario.now.setup.clusters }
         ensures told { (b : Machine) → IsSeen self.old.rests (length scenario.now.setup.clusters) b self.old.noted
-            → MayRest self.old.rests b (node_at world.now.nodes (node_of scenario.now.setup event.now)).broker
-            → OnOk result (telling_of self.new.telling ≡ tells_at indent scenario.now.setup world.now.events event.now b (node_at world.now.nodes (node_of scenario.now.setup event.now)).broker (telling_of self.old.telling)) }
+            → MayRest self.old.rests b (node_at world.now.brokers (node_of scenario.now.setup event.now)).broker
+            → OnOk result (telling_of self.new.telling ≡ tells_at indent scenario.now.setup world.now.events event.now b (node_at world.now.brokers (node_of scenario.now.setup event.now)).broker (telling_of self.old.telling)) }
         ensures knows { IsTelling scenario.now.setup self.new.telling.names self.new.telling.number self.new.telling.said }
     {
         self.telling.begin(alloc, indent, world.events(), event)?;
-        let topic = topic_name(scenario.topics(), place.topic);
-        let broker = world.topic(scenario, place.topic, place.cluster);
+        let topic = topic_name(scenario.topics(), broker_ref.topic);
+        let broker = world.topic(scenario, broker_ref.topic, broker_ref.cluster);
         if self.rests {
-            let noted = self.noted.senders.as_slice();
-            return add_sender_changes(&mut self.telling.text, indent, topic, broker, noted);
+            let noted = self.noted.replicators.as_slice();
+            return add_replicator_changes(&mut self.telling.text, indent, topic, broker, noted);
         }
         add_broker_changes(&mut self.telling.text, indent, topic, broker, &self.noted)
     }

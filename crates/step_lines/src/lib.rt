@@ -2,7 +2,7 @@
 //! it happened.
 //!
 //! The observer of a run looks at the node of an event before it and after it, and tells what a report shows of it and is not the same.
-//! It compares values and never a text, and keeps nothing of other nodes. Where all that an event writes is of senders, it looks at them
+//! It compares values and never a text, and keeps nothing of other brokers. Where all that an event writes is of replicators, it looks at them
 //! alone: entries and subscriptions show the same then. Each line is appended to those before it. Where memory ends in the midst, an
 //! `Err`, it is left open what was appended.
 #![tactic(auto)]
@@ -13,8 +13,8 @@ mod entries;
 mod events;
 mod heads;
 mod noted;
-mod sender_writes;
-mod senders;
+mod replicator_writes;
+mod replicators;
 mod steps;
 mod stops;
 mod sub_names;

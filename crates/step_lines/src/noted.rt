@@ -1,9 +1,9 @@
 //! What a report shows of a node, noted before an event.
 ghost use Rattle.std.specs.Prelude.{◌≡◌, ◌<◌, length, map, IfOk, OnErr, OnOk};
 ghost use Rattle.broker_subs.specs.Table.{sub_at};
-ghost use Rattle.step_lines.specs.Noted.{AreSenders, IsNoted, noted_client, noted_sub, shown_sub};
+ghost use Rattle.step_lines.specs.Noted.{AreReplicators, IsNoted, noted_client, noted_sub, shown_sub};
 
-use crate::senders::{NotedSender, sender_of};
+use crate::replicators::{NotedReplicator, replicator_of};
 use broker::Broker;
 use client::Client;
 use geo_base::{EntryStore, Memory, Text};
@@ -17,11 +17,11 @@ pub struct NotedSub {
     pub shown: SubShown,
 }
 
-/// What a report shows of a broker: how many entries there are, of each cluster's sender, and of each subscription in order of creation.
+/// What a report shows of a broker: how many entries there are, of each cluster's replicator, and of each subscription in order of creation.
 #[derive(Drop)]
 pub struct NotedBroker {
     pub entries: usize,
-    pub senders: Vec<NotedSender>,
+    pub replicators: Vec<NotedReplicator>,
     pub subs: Vec<NotedSub>,
 }
 
@@ -41,16 +41,16 @@ impl NotedBroker {
     pub(crate) fn new(alloc: Global) -> NotedBroker {
         NotedBroker {
             entries: 0,
-            senders: Vec::new(alloc),
+            replicators: Vec::new(alloc),
             subs: Vec::new(alloc),
         }
     }
 
-    /// Notes a broker's senders alone.
-    pub(crate) fn note_senders(&mut self, broker: &Broker) -> Result<(), Memory>
-        ensures { OnOk result (AreSenders (length broker.now.site.clusters) broker.now.broker self.new.senders.items) }
+    /// Notes a broker's replicators alone.
+    pub(crate) fn note_replicators(&mut self, broker: &Broker) -> Result<(), Memory>
+        ensures { OnOk result (AreReplicators (length broker.now.site.clusters) broker.now.broker self.new.replicators.items) }
     {
-        note_senders(&mut self.senders, broker)
+        note_replicators(&mut self.replicators, broker)
     }
 
     /// Notes a broker as it is.
@@ -58,18 +58,18 @@ impl NotedBroker {
         ensures { OnOk result (IsNoted (length broker.now.site.clusters) broker.now.broker self.new) }
     {
         self.entries = broker.store().len();
-        note_senders(&mut self.senders, broker)?;
+        note_replicators(&mut self.replicators, broker)?;
         note_subs(alloc, &mut self.subs, broker)
     }
 }
 
-/// Notes what is shown of each sender.
-fn note_senders(senders: &mut Vec<NotedSender>, broker: &Broker) -> Result<(), Memory>
-    ensures { OnOk result (AreSenders (length broker.now.site.clusters) broker.now.broker senders.new.items) }
+/// Notes what is shown of each replicator.
+fn note_replicators(replicators: &mut Vec<NotedReplicator>, broker: &Broker) -> Result<(), Memory>
+    ensures { OnOk result (AreReplicators (length broker.now.site.clusters) broker.now.broker replicators.new.items) }
 {
-    senders.clear();
+    replicators.clear();
     for remote in 0..broker.site().clusters().len() {
-        senders.push(sender_of(broker, remote as u32))?;
+        replicators.push(replicator_of(broker, remote as u32))?;
     }
     Ok(())
 }

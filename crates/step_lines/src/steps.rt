@@ -14,7 +14,7 @@ use script_text::{SaidLines, Scenario};
 use std::alloc::Global;
 use world::{Observer, RunFault, World};
 
-/// The lines so far, a plan, in which events of brokers are prepared one after another, and what is noted of the broker at hand, its senders
+/// The lines so far, a plan, in which events of brokers are prepared one after another, and what is noted of the broker at hand, its replicators
 /// alone where its entries and its subscriptions rest in the event: the plan's queues and the notes keep their memory.
 #[derive(Drop)]
 pub struct Steps<'a> {
@@ -25,7 +25,7 @@ pub struct Steps<'a> {
 }
 
 impl<'a> Steps<'a> {
-    /// Steps behind a text, which goes before their lines, of a run whose names these are, and whose steps these lines say, from its first
+    /// Steps after a text, which goes before their lines, of a run whose names these are, and whose steps these lines say, from its first
     /// on. It takes no memory.
     pub fn behind(alloc: Global, text: Blob, names: Names<'a>, said: SaidLines<'a>) -> Steps<'a>
         ensures seen { telling_of result.telling ≡ record { text = text; number = 0; said = said.entry } }

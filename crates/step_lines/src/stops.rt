@@ -1,6 +1,6 @@
 //! A stop of everything with what it changed at each broker.
 ghost use Rattle.std.specs.Prelude.{◌≡◌, ℕ, ◌<◌, ◌++◌, List, length, Err, IfOk, OnErr, OnOk};
-ghost use Rattle.broker.specs.Node.{BrokerBook};
+ghost use Rattle.broker.specs.Node.{BrokerView};
 ghost use Rattle.geo_base.specs.Happening.{stops};
 ghost use Rattle.geo_base.specs.World.{World as MachineWorld};
 ghost use Rattle.step_laws.specs.Steps.{Did, changed_in};
@@ -12,8 +12,8 @@ ghost use Rattle.step_lines.specs.Texts.{telling_of};
 ghost use Rattle.world.specs.declared.fault.RunFault.TheVariants as fault;
 ghost use Rattle.world.specs.Steps.{Leads};
 ghost use Rattle.world.specs.World.{AreNodes, IsAt, SameWorld, kept_of};
-ghost use Rattle.world_kept.specs.Reached.{Reached};
-ghost use Rattle.world_kept.specs.Standing.{Stands};
+ghost use Rattle.kept_laws.specs.Reached.{Reached};
+ghost use Rattle.kept_laws.specs.Standing.{Stands};
 
 use crate::broker_changes::add_broker_changes;
 use crate::heads::{Indent, topic_name};
@@ -63,8 +63,8 @@ fn noted_topics(
     world: &World,
     scenario: &Scenario,
 ) -> Result<Vec<NotedTopic>, Memory>
-    requires { AreNodes scenario.now.setup world.now.nodes }
-    ensures { IfOk result (λ noted. AreNotedTopics scenario.now.setup world.now.nodes (length scenario.now.setup.topics) noted.items) }
+    requires { AreNodes scenario.now.setup world.now.brokers }
+    ensures { IfOk result (λ noted. AreNotedTopics scenario.now.setup world.now.brokers (length scenario.now.setup.topics) noted.items) }
 {
     let mut topics = Vec::new(alloc);
     for topic in 0..scenario.topics().len() {
@@ -81,9 +81,9 @@ fn noted_topic(
     scenario: &Scenario,
     topic: u32,
 ) -> Result<NotedTopic, Memory>
-    requires nodes { AreNodes scenario.now.setup world.now.nodes }
+    requires brokers { AreNodes scenario.now.setup world.now.brokers }
     requires topic { topic < length scenario.now.setup.topics }
-    ensures { IfOk result (λ noted. AreNoted scenario.now.setup world.now.nodes topic (length scenario.now.setup.clusters) noted.brokers.items) }
+    ensures { IfOk result (λ noted. AreNoted scenario.now.setup world.now.brokers topic (length scenario.now.setup.clusters) noted.brokers.items) }
 {
     let mut brokers = Vec::new(alloc);
     for cluster in 0..scenario.clusters().len() {
@@ -101,10 +101,10 @@ fn add_topics(
     scenario: &Scenario,
     noted: &[NotedTopic],
 ) -> Result<(), Memory>
-    requires nodes { AreNodes scenario.now.setup world.now.nodes }
+    requires brokers { AreNodes scenario.now.setup world.now.brokers }
     requires topics { AreTopics scenario.now.setup noted.now }
-    ensures { (bs : List BrokerBook) → AreNotedTopics scenario.now.setup bs (length scenario.now.setup.topics) noted.now
-        → OnOk result (lines.new ≡ lines.old ++ stood_lines indent.Step (topics_told scenario.now.setup bs world.now.nodes 0 scenario.now.setup.topics)) }
+    ensures { (bs : List BrokerView) → AreNotedTopics scenario.now.setup bs (length scenario.now.setup.topics) noted.now
+        → OnOk result (lines.new ≡ lines.old ++ stood_lines indent.Step (topics_told scenario.now.setup bs world.now.brokers 0 scenario.now.setup.topics)) }
 {
     for topic in 0..scenario.topics().len() {
         let brokers = noted[topic].brokers.as_slice();
@@ -121,11 +121,11 @@ fn add_topic(
     topic: u32,
     noted: &[NotedBroker],
 ) -> Result<(), Memory>
-    requires nodes { AreNodes scenario.now.setup world.now.nodes }
+    requires brokers { AreNodes scenario.now.setup world.now.brokers }
     requires topic { topic < length scenario.now.setup.topics }
     requires noted { AreWhole (length scenario.now.setup.clusters) noted.now }
-    ensures { (bs : List BrokerBook) → AreNoted scenario.now.setup bs topic (length scenario.now.setup.clusters) noted.now
-        → OnOk result (lines.new ≡ lines.old ++ stood_lines indent.Step (clusters_told scenario.now.setup bs world.now.nodes topic 0 scenario.now.setup.clusters)) }
+    ensures { (bs : List BrokerView) → AreNoted scenario.now.setup bs topic (length scenario.now.setup.clusters) noted.now
+        → OnOk result (lines.new ≡ lines.old ++ stood_lines indent.Step (clusters_told scenario.now.setup bs world.now.brokers topic 0 scenario.now.setup.clusters)) }
 {
     let name = topic_name(scenario.topics(), topic);
     for cluster in 0..scenario.clusters().len() {

@@ -104,7 +104,7 @@ firsts_push fs n a = record {
   };
 }
 
--- of the ledgers behind the first one
+-- of the ledgers after the first one
 
 rising_tail : (f : ℕ) (fs : List ℕ) (n : ℕ) → Rising (f ∷ fs) n → Rising fs n
 rising_tail f fs n r = record {

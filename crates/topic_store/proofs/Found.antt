@@ -62,8 +62,8 @@ position_found fs n i p a l h =
     ∙ position_in fs n 0 p i a.rising l.one l.begun (ends_behind fs n i p (nat_lt (suc p) (length fs)) refl l h)
     ∙ ap (λ (m : ℕ). Some (place m (i - get_or fs p 0))) there
 
-pub no_position : (fs : List ℕ) (n i : ℕ) → AreFirsts fs n → n ≤ i → position_of (lengths_of fs n) i ≡ None
-no_position fs n i a h =
+pub position_missing : (fs : List ℕ) (n i : ℕ) → AreFirsts fs n → n ≤ i → position_of (lengths_of fs n) i ≡ None
+position_missing fs n i a h =
     let start : i ≡ i - get_or fs 0 0 = omega (arith, a.begun) in
     ap (λ (m : ℕ). position_of (lengths_of fs n) m) start ∙ position_past fs n 0 i a.rising h
 
@@ -88,7 +88,7 @@ index_in_last fs n p a h l =
 pub no_index : (fs : List ℕ) (n : ℕ) (p : Position) → length fs ≤ p.ledger → index_of (lengths_of fs n) p ≡ None
 no_index fs n p h = index_past fs n 0 0 p (omega arith)
 
--- a ledger ends behind its beginning
+-- a ledger ends after its beginning
 pub next_above : (fs : List ℕ) (n k : ℕ) → AreFirsts fs n → k + 1 < length fs → get_or fs k 0 ≤ get_or fs (k + 1) 0
 next_above fs n k a h = a.rising.rise k (k + 1) (omega arith) h
 

@@ -4,7 +4,7 @@ use Rattle.std.specs.List.Sorted.{IsPartitionPoint}
 use Rattle.std.proofs.lemmas.Bool.Decides.{nat_tests}
 use Rattle.topic_store.specs.Firsts.{IsLedgerOf}
 
--- the first ones begin at an index or before it, the others behind it
+-- the first ones begin at an index or before it, the others after it
 abbrev pub Splits : List ℕ → ℕ → ℕ → Type 0
 Splits fs index place = IsPartitionPoint (λ (f : ℕ). nat_le f index ≡ true) (λ (f : ℕ). nat_le f index ≡ false) fs place
 

@@ -11,40 +11,15 @@ use Rattle.geo_base.specs.Topic.{accepts}
 use Rattle.topic_store.specs.declared.stream.Stream.{Stream}
 use Rattle.topic_store.specs.declared.table.Verdict.TheVariants as judged
 use Rattle.topic_store.specs.Table.{highest, is_stream, noted, stream_of, verdict, Row, Tells}
+use Rattle.geo_base.proofs.Bools.{and_assoc, and_with_false, and_with_true, both_true, ifs_join, ifs_swap}
 
 -- tests
-
-and_assoc : (a b c : Bool) → (a && (b && c)) ≡ ((a && b) && c)
-and_assoc true b c = refl
-and_assoc false b c = refl
-
-and_true : (a : Bool) → (a && true) ≡ a
-and_true true = refl
-and_true false = refl
-
-and_false : (a : Bool) → (a && false) ≡ false
-and_false true = refl
-and_false false = refl
-
-and_both : (a b : Bool) → (a && b) ≡ true → (a ≡ true) × (b ≡ true)
-and_both true true h = (refl, refl)
-and_both true false h = absurd (cc)
-and_both false b h = absurd (cc)
-
-not_both : (c d : Bool) (x y z : Option ℕ) → (c ≡ true → d ≡ true → ⊥) → (if c then x else if d then y else z) ≡ (if d then y else if c then x else z)
-not_both true true x y z h = absurd (h refl refl)
-not_both true false x y z h = refl
-not_both false d x y z h = refl
-
-both_alike : (c : Bool) (x y z : Option ℕ) → (if c then x else z) ≡ (if c then x else if c then y else z)
-both_alike true x y z = refl
-both_alike false x y z = refl
 
 -- streams
 
 same_parts : (s t : Stream) → is_stream s t ≡ true → (s.origin ≡ t.origin) × (s.producer ≡ t.producer)
 same_parts s t h =
-    let both = and_both (s.origin == t.origin) (bytes_eq s.producer t.producer) h in
+    let both = both_true (s.origin == t.origin) (bytes_eq s.producer t.producer) h in
     let origin : s.origin ≡ t.origin = grind (arith, nat_tests, both.0) in
     (origin, (bytes_eq-Decides s.producer t.producer).0 both.1)
 
@@ -64,10 +39,10 @@ is_stream-self s =
 
 highest_step : (rows : List Row) (s q : Stream) (n : ℕ) (r : Row) (b : Bool) → is_stream s r.0 ≡ b → highest (noted rows s n) q ≡ (if is_stream q s then Some n else highest rows q) → highest (if b then (r.0, n) ∷ rows else r ∷ noted rows s n) q ≡ (if is_stream q s then Some n else if is_stream q r.0 then Some r.1 else highest rows q)
 highest_step rows s q n r true e h =
-    rw (is_stream-right s r.0 q e) (both_alike (is_stream q r.0) (Some n) (Some r.1) (highest rows q))
+    rw (is_stream-right s r.0 q e) (ifs_join (is_stream q r.0) (Some n) (Some r.1) (highest rows q))
 highest_step rows s q n r false e h =
     ap (λ (o : Option ℕ). if is_stream q r.0 then Some r.1 else o) h
-    ∙ not_both (is_stream q r.0) (is_stream q s) (Some r.1) (Some n) (highest rows q) (λ c d. let one = is_stream-left q s r.0 d in absurd (cc))
+    ∙ ifs_swap (is_stream q r.0) (is_stream q s) (Some r.1) (Some n) (highest rows q) (λ c d. let one = is_stream-left q s r.0 d in absurd (cc))
 
 pub highest-noted : (rows : List Row) (s q : Stream) (n : ℕ) → highest (noted rows s n) q ≡ (if is_stream q s then Some n else highest rows q)
 highest-noted [] s q n = refl
@@ -78,7 +53,7 @@ abbrev allows : Entry → Ident → Bool
 allows e i = not (same_stream e.ident i) || nat_lt e.ident.seq i.seq
 
 accepts-append : (es : List Entry) (e : Entry) (i : Ident) → accepts (es ++ e ∷ []) i ≡ (accepts es i && allows e i)
-accepts-append [] e i = and_true (allows e i)
+accepts-append [] e i = and_with_true (allows e i)
 accepts-append (d ∷ es) e i = ap (λ b. allows d i && b) (accepts-append es e i) ∙ and_assoc (allows d i) (accepts es i) (allows e i)
 
 -- names of one stream are told from others alike
@@ -97,16 +72,16 @@ allows_later e a b h s le =
 accepts_later : (es : List Entry) (a b : Ident) → accepts es a ≡ true → same_stream a b ≡ true → a.seq ≤ b.seq → accepts es b ≡ true
 accepts_later [] a b h s le = refl
 accepts_later (e ∷ es) a b h s le =
-    let both = and_both (allows e a) (accepts es a) h in
+    let both = both_true (allows e a) (accepts es a) h in
     rw (allows_later e a b both.0 s le) (accepts_later es a b both.1 s le)
 
 other_stream : (x a y : Bool) → x ≡ false → (a && (not x || y)) ≡ a
 other_stream true a y h = absurd (cc)
-other_stream false a y h = and_true a
+other_stream false a y h = and_with_true a
 
 last_of_stream : (x a y : Bool) → x ≡ true → (y ≡ true → a ≡ true) → (a && (not x || y)) ≡ y
 last_of_stream true a true h k = rw (k refl) refl
-last_of_stream true a false h k = and_false a
+last_of_stream true a false h k = and_with_false a
 last_of_stream false a y h k = absurd (cc)
 
 seen_of_stream : (x a y : Bool) → x ≡ true → (a ≡ true → y ≡ true) → (a && (not x || y)) ≡ a

@@ -10,7 +10,7 @@ lengths_of (f ∷ fs) n = (slice_index_or fs 0 n - f) ∷ lengths_of fs n
 abbrev pub NeverFall : List ℕ → Type 0
 NeverFall fs = (i j : ℕ) → i ≤ j → j < length fs → slice_index fs i ≤ slice_index fs j
 
--- nor behind the topic's end
+-- nor after the topic's end
 pub record Rising (fs : List ℕ) (n : ℕ) : Type 0 where
   pub rise : NeverFall fs
   pub within : (i : ℕ) → i < length fs → slice_index fs i ≤ n

@@ -103,7 +103,7 @@ pub(crate) fn open(firsts: &mut Vec<u64>, len: u64)
 }
 
 /// The position of the entry at an index, from the first index of each ledger; None exactly where nothing stands there.
-#[tactic(auto, using(crate::proofs::Found::position_found, crate::proofs::Found::no_position))]
+#[tactic(auto, using(crate::proofs::Found::position_found, crate::proofs::Found::position_missing))]
 pub fn position_of(firsts: &[u64], len: u64, index: u64) -> Option<Position>
     requires { AreFirsts firsts.now len }
     ensures { result ≡ position_of (lengths_of firsts.now len) index }

@@ -10,7 +10,7 @@ pub fn law_table_of_nothing()
     ensures { Tells [] [] }
 {}
 
-/// A table that tells a topic, and has noted an entry that the topic accepts, tells the topic with that entry behind it.
+/// A table that tells a topic, and has noted an entry that the topic accepts, tells the topic with that entry after it.
 pub fn law_table_with_one_more()
     ensures { (rows : List Row) (es : List Entry) (e : Entry) → Tells rows es → accepts es e.ident ≡ true → Tells (noted rows (stream_of e.ident) e.ident.seq) (es ++ e ∷ []) }
 {}

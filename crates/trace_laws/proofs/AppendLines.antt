@@ -1,5 +1,5 @@
 -- An accepted line of an entry keeps all that is kept.
-use Rattle.std.proofs.Common.{◌≡◌, ℕ, ◌+◌, ◌<◌, true, List, [], ◌∷◌, ◌++◌, length, refl, sym, ap, subst, ◌∙◌, ◌==◌, arith, inl, inr}
+use Rattle.std.proofs.Common.{◌≡◌, ℕ, ◌+◌, ◌<◌, true, List, [], ◌∷◌, length, sym, ap, subst, ◌∙◌, ◌==◌, inl, inr}
 use Rattle.std.specs.Prelude.{Option, Some, None, slice_get}
 use Rattle.std.proofs.lemmas.Bool.{eq-eqb, eqb-true}
 use Rattle.world_laws.proofs.Types.{ClusterPosition, Entry, Position}
@@ -19,16 +19,13 @@ use Rattle.trace_laws.proofs.Kept.{IsCutIn, Kept, TellsSettled, TopicKept, all_l
 use Rattle.trace_laws.proofs.Refusals.{not_broken, or_true}
 use Rattle.trace_laws.proofs.SnapshotLines.{snapshot_cuts}
 use Rattle.trace_laws.proofs.UpdateLines.{brought_update, own_update}
-
-longer_length : {X : Type 0} (xs : List X) (x : X) → length (xs ++ x ∷ []) ≡ length xs + 1
-longer_length [] x = refl
-longer_length (y ∷ xs) x = let h = longer_length xs x in omega (arith, h)
+use Rattle.geo_base.proofs.Lists.{length_push}
 
 pub appends_kept : (s : Setup) (a : Mirrors) (settled : SettledSoFar) (t x : ℕ) (p : Position) (e : Entry) (by_position : Option Position) → IsThere s t x → e.ident.origin < length s.clusters
     → Kept s a settled → act_refused s a t x (mirror_at s a t x) (Appends p e by_position) ≡ None → Kept s (told s a (Writes t x (Appends p e by_position))) settled
 appends_kept s a settled t x p e by_position there small kept h =
     with_topic s a settled settled t x m' there kept (appended_longer m p e m.subs) (λ u n f k. k) (λ grown. record {
-      lengths = longer_length m.positions p ∙ (ap (λ (k : ℕ). k + 1) old.lengths ∙ sym (longer_length m.entries e));
+      lengths = length_push m.positions p ∙ (ap (λ (k : ℕ). k + 1) old.lengths ∙ sym (length_push m.entries e));
       origins = λ i f at. elim (get_push m.entries e i f at) [ inl o ↦ old.origins i f o.1 | inr n ↦ subst (λ (z : Entry). z.ident.origin < length s.clusters) n.1 small ];
       once = once_push m.entries e old.once new.1.0;
       only = λ k v at i inside. let o = old.only k v at i inside in (o.0, new_at i o.0 o.1, o.2);

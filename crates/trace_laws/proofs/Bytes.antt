@@ -1,12 +1,13 @@
 -- Texts of which each byte passes a test, cut at a byte that does not.
 use Rattle.std.proofs.Common.{◌≡◌, ℕ, ◌==◌, Bool, true, false, List, [], ◌∷◌, ◌++◌, get_or, All, refl, ap, ◌∙◌, subst}
 use Rattle.std.specs.List.{join_with_byte, list_all}
-use Rattle.std.proofs.lemmas.Bool.{and_from, and_parts, both_ways, eq-eqb, ne_eqb}
+use Rattle.std.proofs.lemmas.Bool.{both_ways, eq-eqb, ne_eqb}
 use Rattle.std.proofs.lemmas.List.Elements.{All-from_get_or}
 use Rattle.std.proofs.lemmas.List.Splits.{slice_split_at, slice_split_none}
 use Rattle.script_rows.specs.NameWords.{Word, cut_by}
 use Rattle.script_rows.proofs.Back.{passes}
 use Rattle.world_laws.proofs.Replicating.Effects.{Each}
+pub use Rattle.geo_base.proofs.Lists.{all_weaker as weaker}
 
 -- a byte does not stand in a text
 abbrev pub Lacks : ℕ → Word → Type 0
@@ -32,9 +33,3 @@ cut_front k w [] text first rest = slice_split_at (λ b. b == k) w k text first 
 cut_front k w (x ∷ xs) text first rest =
     slice_split_at (λ b. b == k) w k (join_with_byte k (x ∷ (xs ++ text ∷ []))) first (eq-eqb k k refl)
     ∙ ap (λ (ws : List Word). w ∷ ws) (cut_front k x xs text rest.0 rest.1)
-
--- a weaker test
-pub weaker : (p q : ℕ → Bool) → ((b : ℕ) → p b ≡ true → q b ≡ true) → (w : List ℕ) → list_all p w ≡ true → list_all q w ≡ true
-weaker p q each [] all = refl
-weaker p q each (b ∷ w) all =
-    let parts = and_parts (p b) (list_all p w) all in and_from (q b) (list_all q w) (each b parts.0) (weaker p q each w parts.1)

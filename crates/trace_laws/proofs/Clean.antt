@@ -3,13 +3,13 @@ use Rattle.std.proofs.Common.{◌≡◌, ℕ, zero, suc, ◌+◌, ◌^◌, ◌<�
 use Rattle.std.specs.Prelude.{Option, Some, None, IfSome, ◌||◌, ◌==◌, nat_lt, if◌then◌else◌, replicate, slice_set}
 use Rattle.std.specs.List.{list_all}
 use Rattle.std.proofs.lemmas.Option.{none-some, same_Some}
-use Rattle.world_laws.proofs.Types.{Builder, CachedSnapshot, ClusterPosition, Content, Cut, Entry, Frame, Marker, Place, Position, Progress, Targets}
+use Rattle.world_laws.proofs.Types.{SnapshotBuilder, CachedSnapshot, ClusterPosition, Content, Cut, Entry, Frame, Marker, ClusterRef, Position, Progress, Targets}
 use Rattle.world_laws.proofs.Types.content
 use Rattle.world_laws.proofs.Types.frame
 use Rattle.world_laws.proofs.Types.marker
-use Rattle.world_laws.proofs.Types.place
+use Rattle.world_laws.proofs.Types.cluster_ref
 use Rattle.geo_base.specs.Broker.{Broker, Site}
-use Rattle.geo_base.specs.Builder.{Heard, counts, current_id, judged, named, named_from, on_response, started, with_response}
+use Rattle.geo_base.specs.SnapshotBuilder.{Heard, counts, current_id, judged, named, named_from, on_response, started, with_response}
 use Rattle.geo_base.specs.Cache.{any_passed, cut_of, last_passed, with_place, with_places}
 use Rattle.geo_base.specs.Entry.{with_origin}
 use Rattle.geo_base.specs.Name.{is_name}
@@ -94,9 +94,9 @@ places_named c (Some p ∷ ps) h = (h.0, places_named (c + 1) ps h.1)
 pub cut_named : (c : Cut) → IsCleanCut c → Each SmallPlace (named c)
 cut_named c h = places_named 0 c.remote h.remote
 
-with_one : (own : ℕ) (c : Place) (p : Position) (ps : List (Option Position)) → IsSmall p → Each SmallIfAny ps → Each SmallIfAny (with_place own c p ps)
-with_one own (place.Known x) p ps small h = on_if (Each SmallIfAny) (x == own) ps _ h (each_set SmallIfAny ps x (Some p) small h)
-with_one own (place.Stranger n) p ps small h = h
+with_one : (own : ℕ) (c : ClusterRef) (p : Position) (ps : List (Option Position)) → IsSmall p → Each SmallIfAny ps → Each SmallIfAny (with_place own c p ps)
+with_one own (cluster_ref.Known x) p ps small h = on_if (Each SmallIfAny) (x == own) ps _ h (each_set SmallIfAny ps x (Some p) small h)
+with_one own (cluster_ref.Stranger n) p ps small h = h
 
 with_all : (own : ℕ) (ps : List (Option Position)) (rs : List ClusterPosition) → Each SmallPlace rs → Each SmallIfAny ps → Each SmallIfAny (with_places own ps rs)
 with_all own ps [] small h = h
@@ -120,19 +120,19 @@ last_clean m (c ∷ cs) cut h is = by (any_passed m cs) is (λ e. last_clean m c
 
 -- ---- a snapshot that is being made
 
-pub record IsCleanBuilder (u : Builder) : Type 0 where
+pub record IsCleanBuilder (u : SnapshotBuilder) : Type 0 where
   pub id : is_token u.id ≡ true
   pub cut : IsCleanCut u.cut
 
 abbrev HeardClean : Heard → Type 0
 HeardClean r = IsCleanBuilder r.builder
 
-judged_clean : (u : Builder) → IsCleanBuilder u → HeardClean (judged u)
+judged_clean : (u : SnapshotBuilder) → IsCleanBuilder u → HeardClean (judged u)
 judged_clean u h =
     on_if HeardClean (nat_lt (length u.heard + 1) u.clusters) _ _ h
     (on_if HeardClean (u.second || (u.clusters == 2)) _ _ (record { id = h.id; cut = h.cut }) (record { id = h.id; cut = h.cut }))
 
-heard_clean : (u : Builder) (id : List ℕ) (c : ℕ) (remote local : Position) → IsSmall remote → IsSmall local → IsCleanBuilder u → HeardClean (on_response u id c remote local)
+heard_clean : (u : SnapshotBuilder) (id : List ℕ) (c : ℕ) (remote local : Position) → IsSmall remote → IsSmall local → IsCleanBuilder u → HeardClean (on_response u id c remote local)
 heard_clean u id c remote local far near h =
     on_if HeardClean (counts u id c) _ _
     (judged_clean (with_response u c remote local) (record {
@@ -143,11 +143,11 @@ heard_clean u id c remote local far near h =
       };
     })) h
 
-pub hears_clean : (b : Broker) (y i : ℕ) (id : List ℕ) (answer : ClusterPosition) (u : Builder) (g : Progress) (u' : Builder) (local : Position)
+pub hears_clean : (b : Broker) (y i : ℕ) (id : List ℕ) (answer : ClusterPosition) (u : SnapshotBuilder) (g : Progress) (u' : SnapshotBuilder) (local : Position)
     → on_response u id y answer.position local ≡ record { progress = g; builder = u' } → IsSmall answer.position → IsSmall local → IsCleanBuilder u → IsCleanBuilder u'
 hears_clean b y i id answer u g u' local is far near h = subst HeardClean is (heard_clean u id y answer.position local far near h)
 
-pub current_token : (u : Builder) → IsCleanBuilder u → is_token (current_id u) ≡ true
+pub current_token : (u : SnapshotBuilder) → IsCleanBuilder u → is_token (current_id u) ≡ true
 current_token u h = on_if (λ (id : List ℕ). is_token id ≡ true) u.second _ _ (second_token u.id h.id) h.id
 
 pub started_clean : (id : List ℕ) (own n : ℕ) → is_token id ≡ true → IsCleanBuilder (started id own n)

@@ -2,8 +2,7 @@
 use Rattle.std.proofs.Common.{◌≡◌, ℕ, zero, suc, ◌-◌, ◌^◌, ◌<◌, true, List, [], ◌∷◌, length, map, sym, subst, arith}
 use Rattle.std.specs.Prelude.{Option, Some, None, drop, if◌then◌else◌, is_some, nat_lt, not, slice_get}
 use Rattle.std.specs.Str.{bytes_eq}
-use Rattle.std.proofs.lemmas.Option.{none-some}
-use Rattle.world_laws.proofs.Types.{Builder, CachedSnapshot, Change, ClusterPosition, Entry, Frame, Out, Packet, Position, Progress, Write}
+use Rattle.world_laws.proofs.Types.{SnapshotBuilder, CachedSnapshot, Change, ClusterPosition, Entry, Frame, Out, Packet, Position, Progress, Write}
 use Rattle.world_laws.proofs.Types.change
 use Rattle.world_laws.proofs.Types.content
 use Rattle.world_laws.proofs.Types.frame
@@ -13,7 +12,7 @@ use Rattle.world_laws.proofs.Types.write
 use Rattle.geo_base.specs.Broker.{Broker, Site, changed, cluster_name, sub_named, written}
 use Rattle.geo_base.specs.Cache.{any_passed, cached, most_cached, not_passed}
 use Rattle.geo_base.specs.Cursor.{below, mark}
-use Rattle.geo_base.specs.Dispatcher.{given, passed_index}
+use Rattle.geo_base.specs.Dispatcher.{given, skipped_index}
 use Rattle.geo_base.specs.Forwarding.{closes}
 use Rattle.geo_base.specs.Plan.{Plan, all_changed, all_written, done, quiet_plan}
 use Rattle.geo_base.specs.Planned.{Planned}
@@ -31,13 +30,14 @@ use Rattle.world_laws.proofs.Walks.Walk.{on_if}
 use Rattle.world_laws.proofs.FrameContents.Widths.{Named}
 use Rattle.trace_laws.proofs.Words.{id_token, is_plain}
 use Rattle.trace_laws.proofs.Clean.{IsClean, IsCleanBuilder, IsCleanCached, IsCleanFrame, marker_of, current_token, cut_named, cut_clean, frame_of, hears_clean, last_clean, moved, own_clean, started_clean}
+use Rattle.geo_base.proofs.Lists.{get_below}
 
 -- ---- a broker
 
 abbrev pub HasClean : Subscription → Type 0
 HasClean v = Each IsCleanCached v.cache
 
-abbrev pub BuilderIsClean : Option Builder → Type 0
+abbrev pub BuilderIsClean : Option SnapshotBuilder → Type 0
 BuilderIsClean None = Unit {0}
 BuilderIsClean (Some u) = IsCleanBuilder u
 
@@ -90,7 +90,7 @@ written_clean per b (write.Alter n kind replicated) k h =
 written_clean per b (write.Delete n) k h = record { stored = h.stored; builder = h.builder; caches = each_filter HasClean (λ (s : Subscription). not (bytes_eq s.name n)) b.subs h.caches }
 written_clean per b (write.Acks n is) k h = record { stored = h.stored; builder = h.builder; caches = at_subs b n (with_acks is) (λ v p. p) h.caches }
 written_clean per b (write.Seek n i) k h = record { stored = h.stored; builder = h.builder; caches = at_subs b n (sought i) (λ v p. p) h.caches }
-written_clean per b (write.SenderAck y i) k h = record { stored = h.stored; builder = h.builder; caches = h.caches }
+written_clean per b (write.ReplicatorAck y i) k h = record { stored = h.stored; builder = h.builder; caches = h.caches }
 written_clean per b (write.SessionNumber y n) k h = record { stored = h.stored; builder = h.builder; caches = h.caches }
 written_clean per b write.Ledger k h = record { stored = h.stored; builder = h.builder; caches = h.caches }
 
@@ -114,7 +114,7 @@ pub changed_clean : (b : Broker) (c : Change) → ChangesClean c → KeepsClean 
 changed_clean b (change.Attach n p) k h = record { stored = h.stored; builder = h.builder; caches = at_subs b n (attached p) (λ v p. p) h.caches }
 changed_clean b (change.Detach c) k h = record { stored = h.stored; builder = h.builder; caches = each_to HasClean HasClean (detached c) (λ v p. p) b.subs h.caches }
 changed_clean b (change.Permit n c permits) k h = record { stored = h.stored; builder = h.builder; caches = at_subs b n (permitted c permits) (λ v p. p) h.caches }
-changed_clean b (change.Passed n i) k h = record { stored = h.stored; builder = h.builder; caches = at_subs b n (passed_index i) (λ v p. p) h.caches }
+changed_clean b (change.Skipped n i) k h = record { stored = h.stored; builder = h.builder; caches = at_subs b n (skipped_index i) (λ v p. p) h.caches }
 changed_clean b (change.Given n i at) k h = record { stored = h.stored; builder = h.builder; caches = at_subs b n (given i at) (λ v p. p) h.caches }
 changed_clean b (change.Cache n c) k h = record { stored = h.stored; builder = h.builder; caches = at_subs b n (λ s. record s { cache = cached s.cache c }) (λ v p. cached_clean v.cache c k p) h.caches }
 changed_clean b (change.Acked n) k h = record { stored = h.stored; builder = h.builder; caches = at_subs b n after_acks acked_clean h.caches }
@@ -145,12 +145,7 @@ done_clean per b q k h = all_changed_clean (all_written per b q.writes) q.change
 stored_at : (b : Broker) (i : ℕ) (e : Entry) → KeepsClean b → slice_get b.entries i ≡ Some e → IsClean e
 stored_at b i e h at = each_at_place IsClean b.entries i e h.stored at
 
-within : {X : Type 0} (xs : List X) (i : ℕ) (x : X) → slice_get xs i ≡ Some x → i < length xs
-within [] i x at = absurd (none-some x at)
-within (a ∷ xs) zero x at = omega arith
-within (a ∷ xs) (suc i) x at = let h = within xs i x at in omega (arith, h)
-
-builder_clean : (b : Broker) (u : Builder) → KeepsClean b → b.builder ≡ Some u → IsCleanBuilder u
+builder_clean : (b : Broker) (u : SnapshotBuilder) → KeepsClean b → b.builder ≡ Some u → IsCleanBuilder u
 builder_clean b u h is = subst BuilderIsClean is h.builder
 
 updates_clean : (h : Site) (b : Broker) (v : Subscription) (ws : List Write) → Ready h b → Named v → HasClean v → Updates h b v ws → Each WritesClean ws
@@ -215,18 +210,18 @@ fated_clean per b Acts lost q acts none (Fated.Twice r r' t t') =
     }
 
 -- what a response makes of the builder
-goes_on : (h : Site) (b : Broker) (y i : ℕ) (e : Entry) (id : List ℕ) (answer : ClusterPosition) (u : Builder) (g : Progress) (u' : Builder) → Ready h b → slice_get b.entries i ≡ Some e
+goes_on : (h : Site) (b : Broker) (y i : ℕ) (e : Entry) (id : List ℕ) (answer : ClusterPosition) (u : SnapshotBuilder) (g : Progress) (u' : SnapshotBuilder) → Ready h b → slice_get b.entries i ≡ Some e
     → e.content ≡ content.Marked (marker.Response id answer) → b.builder ≡ Some u → Hears b y i id answer u g u' → IsCleanBuilder u'
 goes_on h b y i e id answer u g u' r at is made heard =
     hears_clean b y i id answer u g u' (position_at b.ledgers i) heard (marker_of e (marker.Response id answer) is (stored_at b i e r.clean at)).1
-    (r.places i (within b.entries i e at)) (builder_clean b u r.clean made)
+    (r.places i (get_below b.entries i e at)) (builder_clean b u r.clean made)
 
 reads_clean : (h : Site) (b : Broker) (y : ℕ) (q : Plan) → Ready h b → Reads h b y q → IsCleanPlan q
 reads_clean h b y q r Reads.NothingToRead = record { writes = tt; changes = tt; sent = tt }
 reads_clean h b y q r (Reads.Forwards i e next out) = record { writes = tt; changes = (tt, tt); sent = (stored_at b i e r.clean next.2, tt) }
 reads_clean h b y q r (Reads.Skips i e next other) = record { writes = (tt, tt); changes = (tt, tt); sent = tt }
 reads_clean h b y q r (Reads.Responds i e id source next of is) =
-    let last : length b.entries - 1 < length b.entries = let lt = within b.entries i e next.2 in omega (arith, lt) in
+    let last : length b.entries - 1 < length b.entries = let lt = get_below b.entries i e next.2 in omega (arith, lt) in
     record {
       writes = (
         own_clean h b _ _ _ r.number (marker_of e (marker.Request id source) is (stored_at b i e r.clean next.2), r.places (length b.entries - 1) last),
@@ -244,10 +239,10 @@ reads_clean h b y q r (Reads.Completes i e id answer u u' next is heard) =
     let k = goes_on h b y i e id answer u progress.Done u' r next.2 is.1 is.2 heard in
     record { writes = (own_clean h b _ _ _ r.number (k.id, k.cut.local, cut_named u'.cut k.cut), (tt, tt)); changes = (tt, (tt, tt)); sent = tt }
 reads_clean h b y q r (Reads.CreatesAt i j e n remote next is named) = record { writes = (tt, (tt, (tt, tt))); changes = (tt, (tt, tt)); sent = tt }
-reads_clean h b y q r (Reads.PassesOver i j e n remote v ws next is named after) = record {
+reads_clean h b y q r (Reads.ActsOnUpdate i j e n remote v ws next is named after) = record {
   writes = (
     tt,
-    each_both WritesClean ws (write.SenderAck y i ∷ [])
+    each_both WritesClean ws (write.ReplicatorAck y i ∷ [])
         (updates_clean h b _ ws r (found_is Named _ b.subs v named r.names).0 (found_is HasClean _ b.subs v named r.clean.caches).0 after) (tt, tt),
   );
   changes = (tt, (tt, tt));
@@ -268,7 +263,7 @@ snapshot_clean h b v i e j c k at (id, local, remote, is, own, here, made) =
 offers_clean : (h : Site) (b : Broker) (n : List ℕ) (q : Plan) → Ready h b → Offers h b n q → IsCleanPlan q
 offers_clean h b n q r Offers.NothingToOffer = record { writes = tt; changes = tt; sent = tt }
 offers_clean h b n q r (Offers.Gives v i at e due is picked) = record { writes = tt; changes = (tt, tt); sent = (stored_at b i e r.clean due.2, tt) }
-offers_clean h b n q r (Offers.PassesBy v i e ws due is after) =
+offers_clean h b n q r (Offers.SkipsMarker v i e ws due is after) =
     record { writes = (tt, updates_clean h b _ ws r (found_is Named _ b.subs v due.0 r.names).0 (found_is HasClean _ b.subs v due.0 r.clean.caches).0 after); changes = (tt, (tt, tt)); sent = tt }
 offers_clean h b n q r (Offers.Caches v i j e c ws due is after) =
     let k = snapshot_clean h b v i e j c r.clean due.2 is in

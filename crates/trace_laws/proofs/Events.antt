@@ -1,4 +1,4 @@
--- An event, told by its lines: an audit that sees the world before it accepts them, and sees the world behind it.
+-- An event, told by its lines: an audit that sees the world before it accepts them, and sees the world after it.
 use Rattle.std.proofs.Common.{◌≡◌, ℕ, ◌+◌, ◌*◌, ◌<◌, Bool, true, false, List, [], ◌∷◌, length, map, refl, sym, ap, ◌∙◌, arith}
 use Rattle.std.specs.Prelude.{Option, Some, None, if◌then◌else◌, nat_lt, slice_set, take, Ok}
 use Rattle.std.specs.Str.{bytes_eq}
@@ -9,7 +9,7 @@ use Rattle.world_laws.proofs.Types.change
 use Rattle.world_laws.proofs.Types.event
 use Rattle.geo_base.specs.Broker.{Broker, changed, session_at}
 use Rattle.geo_base.specs.Cache.{cached}
-use Rattle.geo_base.specs.Dispatcher.{given, passed_index}
+use Rattle.geo_base.specs.Dispatcher.{given, skipped_index}
 use Rattle.geo_base.specs.Forwarding.{is_remote, receipt, reset, take_packet}
 use Rattle.geo_base.specs.Link.{next_packet}
 use Rattle.geo_base.specs.Plan.{Plan, all_changed, all_written, idle_plan}
@@ -43,7 +43,7 @@ use Rattle.geo_base.specs.Run.{or_else}
 use Rattle.audit.specs.Strict.{audited_from_by}
 use Rattle.audit.specs.declared.strictness.Strictness.TheVariants as strictness
 use Rattle.trace_laws.specs.Seen.{seen, sub_seen, world_seen}
-use Rattle.trace_laws.proofs.Shaped.{came_plan, fated_came, fated_senders, offers_hold, reads_hold, seeks_hold, senders_hold, served_holds, snaps_hold}
+use Rattle.trace_laws.proofs.Shaped.{came_plan, fated_came, fated_replicators, offers_hold, reads_hold, seeks_hold, replicators_hold, served_holds, snaps_hold}
 use Rattle.trace_laws.proofs.Told.{Here, same_set}
 use Rattle.trace_laws.proofs.Writes.{PlanHolds, all_accepted, seen_same}
 
@@ -105,7 +105,7 @@ receipt_holds : (s : Setup) (w : World) (n t x y : ℕ) (k : Cause) (f : Fate) (
 unfolding receipt
 receipt_holds s w n t x y k f None = tt
 receipt_holds s w n t x y k f (Some p) =
-    senders_hold s w.brokers n t x k (topic_at s w t x) _ (fated_senders s.per_ledger (topic_at s w t x) y p _ (fate_answered (site s t x) (topic_at s w t x) y p f))
+    replicators_hold s w.brokers n t x k (topic_at s w t x) _ (fated_replicators s.per_ledger (topic_at s w t x) y p _ (fate_answered (site s t x) (topic_at s w t x) y p f))
 
 event_holds : (s : Setup) (w : World) (n : ℕ) (e : Event) → in_range s e ≡ true → Whole s w → FreshIn s w (planned_in s w e) → ((k : ℕ) → Knows s (partly_written s w k (planned_in s w e)))
     → PlannedHolds s w n e (planned_in s w e)
@@ -166,7 +166,7 @@ change_seen b c = by c
     by (change.Attach n k) = named n (attached k) (λ v. refl)
     by (change.Detach k) = subs (detached k) (λ v. refl)
     by (change.Permit n k permits) = named n (permitted k permits) (λ v. refl)
-    by (change.Passed n i) = named n (passed_index i) (λ v. refl)
+    by (change.Skipped n i) = named n (skipped_index i) (λ v. refl)
     by (change.Given n i at) = named n (given i at) (λ v. refl)
     by (change.Cache n k) = named n (λ v. record v { cache = cached v.cache k }) (λ v. refl)
     by (change.Acked n) = named n after_acks (λ v. refl)
@@ -197,7 +197,7 @@ unfolding refused
 begins s w rest =
     ap (λ (b : Bool). judged w.events (or_else (unless_broken 1 b None) None) (audited_from_by strictness.Whole s (record { topics = map seen w.brokers; events = w.events + 1 }) rest)) (eq-eqb (w.events + 1) (w.events + 1) refl)
 
--- and then so many of its writes, behind which an audit sees what a broker's state that looks the same shows
+-- and then so many of its writes, after which an audit sees what a broker's state that looks the same shows
 pub told_planned : (s : Setup) (w : World) (e : Event) (p : Planned) (ws : List Write) (b' : Broker) → IsThere s p.topic p.cluster
     → length w.brokers ≡ length s.topics * length s.clusters
     → PlanHolds s w.brokers (w.events + 1) p.topic p.cluster (cause_of (topic_at s w p.topic p.cluster) e) (topic_at s w p.topic p.cluster) ws

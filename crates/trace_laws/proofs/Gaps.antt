@@ -1,4 +1,4 @@
--- Behind each line of a trace that is accepted wholly, what a cluster has of another one is a beginning of what that has for it.
+-- After each line of a trace that is accepted wholly, what a cluster has of another one is a beginning of what that has for it.
 use Rattle.std.proofs.Common.{◌≡◌, ℕ, ◌*◌, ◌<◌, Bool, true, false, cond, List, [], ◌∷◌, ◌++◌, length, refl, sym, ap, subst, ◌∙◌, ◌==◌, inl, inr}
 use Rattle.std.specs.Prelude.{Option, Some, None, slice_get, Ok}
 use Rattle.std.specs.List.{AllByRecursion}
@@ -137,7 +137,7 @@ gapless_law s before after a of h = lines_gapless s (opening_mirrors s) a before
 
 -- ---- and a run's trace tells such lines
 
--- what far has with e behind it is a beginning of what near has: so e is the next one
+-- what far has with e after it is a beginning of what near has: so e is the next one
 pub next_there : (z x : ℕ) (near far : List Entry) (e : Entry) → StartsAs z x near (far ++ e ∷ []) → is_of z e ≡ true → slice_get (outbound z x near) (length (of_origin z far)) ≡ Some e
 next_there z x near far e begins of =
     let A = of_origin z far in

@@ -150,7 +150,7 @@ seen_named n b named h = found_named n b.subs named (some_seen (sub_named b.subs
 
 -- ---- the writes, one after another
 
--- there is room behind each of them
+-- there is room after each of them
 abbrev pub IsRoomy : Broker → Type 0
 IsRoomy b = HasRoom b × (length b.entries < 2 ^ 64)
 
@@ -235,8 +235,8 @@ writes_told s bs n t x c b (write.Seek m i ∷ ws) topic cluster why holds told 
 writes_told s bs n t x c b (write.Alter m kind replicated ∷ ws) topic cluster why holds told good wide room =
     writes_told s bs n t x c (written s.per_ledger b (write.Alter m kind replicated)) ws topic cluster why holds.1 told.1 good.1
     (written_wide (length s.clusters) s.per_ledger b (write.Alter m kind replicated ∷ []) (tt, tt) wide) room.1
-writes_told s bs n t x c b (write.SenderAck y i ∷ ws) topic cluster why holds told good wide room =
-    writes_told s bs n t x c (written s.per_ledger b (write.SenderAck y i)) ws topic cluster why holds.1 told.1 good.1 (written_wide (length s.clusters) s.per_ledger b (write.SenderAck y i ∷ []) (tt, tt) wide) room.1
+writes_told s bs n t x c b (write.ReplicatorAck y i ∷ ws) topic cluster why holds told good wide room =
+    writes_told s bs n t x c (written s.per_ledger b (write.ReplicatorAck y i)) ws topic cluster why holds.1 told.1 good.1 (written_wide (length s.clusters) s.per_ledger b (write.ReplicatorAck y i ∷ []) (tt, tt) wide) room.1
 writes_told s bs n t x c b (write.SessionNumber y i ∷ ws) topic cluster why holds told good wide room =
     writes_told s bs n t x c (written s.per_ledger b (write.SessionNumber y i)) ws topic cluster why holds.1 told.1 good.1
     (written_wide (length s.clusters) s.per_ledger b (write.SessionNumber y i ∷ []) (tt, tt) wide) room.1

@@ -17,7 +17,7 @@ use Rattle.geo_base.specs.Position.{position_le, position_lt}
 use Rattle.geo_base.specs.Setup.{Setup}
 use Rattle.geo_base.specs.Subscription.{Subscription}
 use Rattle.geo_base.specs.Topic.{accepts, grown, index_of, next_position, position_at}
-use Rattle.geo_base.specs.Updating.{only_index, passed_over, positions_for}
+use Rattle.geo_base.specs.Updating.{only_index, updated_indexes, positions_for}
 use Rattle.world_laws.proofs.Snapshotting.Answering.{Numbered}
 use Rattle.world_laws.proofs.Replicating.Cursors.{or_left, or_right}
 use Rattle.world_laws.proofs.TopicOrder.Ledgers.{at_index, still_grown, total}
@@ -30,7 +30,7 @@ use Rattle.geo_base.specs.declared.planned.Cause.TheVariants as cause
 use Rattle.geo_base.specs.TraceItems.{Acks, Appends}
 use Rattle.geo_base.specs.Traced.{cursor_of, gained}
 use Rattle.geo_base.specs.Mirror.{Mirror, MirrorSub, Mirrors, mirror_at, mirror_sub}
-use Rattle.geo_base.specs.Audit.{act_refused, are_markers, are_new, cause_refused, entry_at, entry_by, is_above, is_brought, is_marker, is_passed, may_snapshot, may_stand, may_update, only_named, passes_all, passes_at, passes_content, passes_entry, same_entry, unless_broken}
+use Rattle.geo_base.specs.Audit.{act_refused, are_markers, are_new, cause_refused, entry_at, entry_by, is_above, is_brought, is_marker, is_passed, may_snapshot, may_stand, may_update, only_named, are_all_updated, is_updated_at, content_updates, entry_updates, same_entry, unless_broken}
 use Rattle.geo_base.specs.Laws.{of_origin, outbound}
 use Rattle.audit.specs.Stored.{is_same_at}
 use Rattle.audit.specs.Strict.{is_next, may_follow}
@@ -156,13 +156,13 @@ marker_accepted x b m set i e at silent =
 pub passes_accepted : (x y : ℕ) (b : Broker) (m set : List ℕ) (remote : List ClusterPosition) (k j : ℕ) (u : Entry) (p : Position) → Numbered b.entries b.ledgers
     → slice_get b.entries k ≡ Some u → u.ident.origin ≡ y → (y == x) ≡ false → u.content ≡ content.Marked (marker.Update m remote)
     → only_index b.ledgers (positions_for x remote) ≡ Some j → p ≡ position_at b.ledgers k
-    → cause_refused x (seen b) m (gained set (passed_over y 0 (j + 1) b.entries)) (cause.Update p) ≡ None
+    → cause_refused x (seen b) m (gained set (updated_indexes y 0 (j + 1) b.entries)) (cause.Update p) ≡ None
 passes_accepted x y b m set remote k j u p numbered at of other is only at_p =
-    goes_by 10 (passes_entry x (seen b) m g (entry_by (seen b) (Some p))) None
-    (ap (λ (o : Option Entry). passes_entry x (seen b) m g o) found ∙ content_passes)
+    goes_by 10 (entry_updates x (seen b) m g (entry_by (seen b) (Some p))) None
+    (ap (λ (o : Option Entry). entry_updates x (seen b) m g o) found ∙ content_passes)
   where
     g : List ℕ
-    g = gained set (passed_over y 0 (j + 1) b.entries)
+    g = gained set (updated_indexes y 0 (j + 1) b.entries)
 
     whole : total b.ledgers ≡ length b.entries
     whole = numbered.whole
@@ -178,23 +178,23 @@ passes_accepted x y b m set remote k j u p numbered at of other is only at_p =
     named (q ∷ []) = index_seen b q numbered
     named (q ∷ r ∷ ps) = refl
 
-    all : passes_all y (seen b) g (Some j) ≡ true
+    all : are_all_updated y (seen b) g (Some j) ≡ true
     all =
         all_from_has (is_passed y j (seen b)) g
         (λ i inside.
-        let o = passed_over_is y 0 (j + 1) b.entries i (gained_is set (passed_over y 0 (j + 1) b.entries) i inside).0 in
+        let o = passed_over_is y 0 (j + 1) b.entries i (gained_is set (updated_indexes y 0 (j + 1) b.entries) i inside).0 in
         let small = o.small in let same = o.is in
         let here : o.place ≡ i = omega (arith, same) in
         let le : nat_le i j ≡ true = grind (arith, nat_tests, small, same) in
-        both (nat_le i j) (passes_at y (slice_get b.entries i)) le
-        (ap (passes_at y) (subst (λ (z : ℕ). slice_get b.entries z ≡ Some o.entry) here o.at) ∙ o.passed))
+        both (nat_le i j) (is_updated_at y (slice_get b.entries i)) le
+        (ap (is_updated_at y) (subst (λ (z : ℕ). slice_get b.entries z ≡ Some o.entry) here o.at) ∙ o.passed))
 
-    content_passes : passes_entry x (seen b) m g (Some u) ≡ true
+    content_passes : entry_updates x (seen b) m g (Some u) ≡ true
     content_passes =
-        let C : Content → Type 0 = λ c. passes_content x u.ident.origin (seen b) m g c ≡ true in
-        let Y : ℕ → Type 0 = λ z. passes_content x z (seen b) m g (content.Marked (marker.Update m remote)) ≡ true in
+        let C : Content → Type 0 = λ c. content_updates x u.ident.origin (seen b) m g c ≡ true in
+        let Y : ℕ → Type 0 = λ z. content_updates x z (seen b) m g (content.Marked (marker.Update m remote)) ≡ true in
         subst C (sym is)
         (subst Y (sym of)
-        (both (bytes_eq m m && not (y == x)) (passes_all y (seen b) g (only_named (seen b) (positions_for x remote)))
+        (both (bytes_eq m m && not (y == x)) (are_all_updated y (seen b) g (only_named (seen b) (positions_for x remote)))
         (both (bytes_eq m m) (not (y == x)) ((bytes_eq-Decides m m).1 refl) (ap not other))
-        (ap (passes_all y (seen b) g) (named (positions_for x remote) ∙ only) ∙ all)))
+        (ap (are_all_updated y (seen b) g) (named (positions_for x remote) ∙ only) ∙ all)))

@@ -7,6 +7,7 @@ use Rattle.std.proofs.lemmas.Option.{none-some, same_Some}
 use Rattle.geo_base.specs.Cursor.{has}
 use Rattle.world_laws.proofs.Replicating.Cursors.{either}
 use Rattle.world_laws.proofs.Walks.Walk.{left, right}
+pub use Rattle.geo_base.proofs.Lists.{get_of_take as of_take}
 
 -- what all pass, each passes
 pub all_at : {X : Type 0} (p : X → Bool) (xs : List X) (i : ℕ) (x : X) → list_all p xs ≡ true → slice_get xs i ≡ Some x → p x ≡ true
@@ -28,13 +29,6 @@ any_at p (a ∷ xs) h =
       | inl e ↦ record { place = zero; it = a; at = refl; passes = e }
       | inr l ↦ let r = any_at p xs l in record { place = suc r.place; it = r.it; at = r.at; passes = r.passes }
     ]
-
--- the first so many
-pub of_take : {X : Type 0} (n : ℕ) (xs : List X) (i : ℕ) (x : X) → slice_get (take n xs) i ≡ Some x → (i < n) × (slice_get xs i ≡ Some x)
-of_take zero xs i x at = absurd (none-some x at)
-of_take (suc n) [] i x at = absurd (none-some x at)
-of_take (suc n) (a ∷ xs) zero x at = (omega arith, at)
-of_take (suc n) (a ∷ xs) (suc i) x at = let r = of_take n xs i x at in (let lt = r.0 in omega (arith, lt), r.1)
 
 pub in_take : {X : Type 0} (n : ℕ) (xs : List X) (i : ℕ) (x : X) → i < n → slice_get xs i ≡ Some x → slice_get (take n xs) i ≡ Some x
 in_take zero xs i x lt at = absurd (omega (arith, lt))

@@ -1,4 +1,4 @@
--- The snapshot that a trace names behind an own update: of the own snapshots with the same remote positions the one with the least local
+-- The snapshot that a trace names after an own update: of the own snapshots with the same remote positions the one with the least local
 -- position. Where a mark-delete passes one of them it passes that one too, so the line is accepted.
 use Rattle.std.proofs.Common.{◌≡◌, ℕ, zero, suc, ◌+◌, ◌<◌, ◌≤◌, Bool, true, false, List, [], ◌∷◌, ◌++◌, length, refl, sym, ap, subst, ◌∙◌, ◌==◌, arith, inl, inr}
 use Rattle.std.specs.Prelude.{◌⊎◌, ◌&&◌, Option, Some, if◌then◌else◌, slice_get}
@@ -9,7 +9,7 @@ use Rattle.world_laws.proofs.Types.{CachedSnapshot, ClusterPosition, Content, Cu
 use Rattle.world_laws.proofs.Types.content
 use Rattle.world_laws.proofs.Types.marker
 use Rattle.geo_base.specs.Broker.{Broker, Site}
-use Rattle.geo_base.specs.Builder.{named}
+use Rattle.geo_base.specs.SnapshotBuilder.{named}
 use Rattle.geo_base.specs.Cache.{cut_of}
 use Rattle.geo_base.specs.Cursor.{mark}
 use Rattle.geo_base.specs.Position.{position_le, position_lt}
@@ -103,7 +103,7 @@ snapshots_are own n remote i (e ∷ es) m s = by (λ r. later own n remote i e e
     by rest content.Data is r = rest r
     by rest (content.Unread k) is r = rest r
 
--- behind others
+-- after others
 behind : {X : Type 0} (xs ys : List X) (y : X) → Stands ys y → Stands (xs ++ ys) y
 behind [] ys y s = s
 behind (x ∷ xs) ys y s = stands_next x (xs ++ ys) y (behind xs ys y s)
@@ -225,7 +225,7 @@ abbrev pub NamesItsCut : ℕ → ℕ → List Entry → Type 0
 NamesItsCut n x es = (i : ℕ) (e : Entry) (id : List ℕ) (local : Position) (remote : List ClusterPosition) → slice_get es i ≡ Some e → is_of x e ≡ true
     → e.content ≡ content.Marked (marker.Snapshot id local remote) → remote ≡ named (cut_of x n local remote)
 
--- the update that follows a cursor's write: h is the site, b the broker behind that write, c the cached snapshot that the mark-delete passes
+-- the update that follows a cursor's write: h is the site, b the broker after that write, c the cached snapshot that the mark-delete passes
 pub update_accepted : (h : Site) (b : Broker) (n : List ℕ) (cut : Cut) (c : CachedSnapshot) (v : Subscription) → Numbered b.entries b.ledgers
     → NamesItsCut (length h.clusters) h.own b.entries → LocalStored h.own b → StemsFrom (length h.clusters) h.own b.entries b.ledgers c → c.cut ≡ cut → c.index < mark v.cursor → mirror_sub (seen b) n ≡ Some (sub_seen v)
     → tells_entry h.own (length h.clusters) (seen b) n (named cut)

@@ -4,6 +4,7 @@ use Rattle.std.specs.Prelude.{◌||◌, Option, Some, None, Result, Ok, Err}
 use Rattle.std.proofs.lemmas.Bool.{false≢true}
 use Rattle.std.proofs.lemmas.Option.{none-some}
 use Rattle.geo_base.specs.Audit.{Refusal, judged, unless_broken}
+pub use Rattle.geo_base.proofs.Bools.{or_other as or_true}
 
 abbrev is_accepted : {A : Type 0} → Result A Refusal → Bool
 is_accepted (Ok a) = true
@@ -20,10 +21,6 @@ accepted n (Some rule) r a h = absurd (err_ok h)
 pub not_broken : (rule : ℕ) (b : Bool) (rest : Option ℕ) → unless_broken rule b rest ≡ None → (b ≡ true) × (rest ≡ None)
 not_broken rule true rest h = (refl, h)
 not_broken rule false rest h = absurd (none-some rule (sym h))
-
-pub or_true : (a b : Bool) → (a || b) ≡ true → a ≡ false → b ≡ true
-or_true true b h e = absurd (false≢true (sym e))
-or_true false b h e = h
 
 pub not_true : (a b : Bool) → (not a || b) ≡ true → a ≡ true → b ≡ true
 not_true true b h e = h

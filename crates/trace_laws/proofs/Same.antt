@@ -4,10 +4,10 @@ use Rattle.std.specs.Prelude.{◌&&◌}
 use Rattle.std.specs.Str.{bytes_eq}
 use Rattle.std.proofs.lemmas.Bool.{eqb-true, false≢true}
 use Rattle.std.proofs.lemmas.Slice.Eq.{bytes_eq-Decides}
-use Rattle.world_laws.proofs.Types.{ClusterPosition, Content, Entry, Ident, Marker, Place, Position, Targets}
+use Rattle.world_laws.proofs.Types.{ClusterPosition, Content, Entry, Ident, Marker, ClusterRef, Position, Targets}
 use Rattle.world_laws.proofs.Types.content
 use Rattle.world_laws.proofs.Types.marker
-use Rattle.world_laws.proofs.Types.place
+use Rattle.world_laws.proofs.Types.cluster_ref
 use Rattle.world_laws.proofs.Types.targets
 use Rattle.geo_base.specs.Entry.{same_ident, same_stream}
 use Rattle.geo_base.specs.Position.{same_position}
@@ -15,7 +15,7 @@ use Rattle.geo_base.specs.Updating.{positions_for}
 use Rattle.std.proofs.lemmas.Bool.Decides.{nat_tests}
 use Rattle.world_laws.proofs.Walks.Walk.{by_test, left, right}
 use Rattle.geo_base.specs.TraceItems.{names_same, same_positions}
-use Rattle.geo_base.specs.Audit.{same_content, same_entry, same_key, same_marker, same_pair, same_pairs, same_place, same_targets}
+use Rattle.geo_base.specs.Audit.{same_content, same_entry, same_key, same_marker, same_pair, same_pairs, same_cluster_ref, same_targets}
 
 bytes_are : (m n : List ℕ) → bytes_eq m n ≡ true → m ≡ n
 bytes_are m n h = (bytes_eq-Decides m n).0 h
@@ -28,17 +28,17 @@ positions_are p q h =
     let make : ℕ → ℕ → Position = λ a b. record { ledger = a; entry = b } in
     pair_ap make (eqb-true p.ledger q.ledger (left (p.ledger == q.ledger) (p.entry == q.entry) h)) (eqb-true p.entry q.entry (right (p.ledger == q.ledger) (p.entry == q.entry) h))
 
-places_are : (a b : Place) → same_place a b ≡ true → a ≡ b
-places_are (place.Known x) (place.Known y) h = ap (λ (n : ℕ). place.Known n) (eqb-true x y h)
-places_are (place.Stranger m) (place.Stranger n) h = ap (λ (l : List ℕ). place.Stranger l) (bytes_are m n h)
-places_are (place.Known x) (place.Stranger n) h = absurd (false≢true h)
-places_are (place.Stranger m) (place.Known y) h = absurd (false≢true h)
+places_are : (a b : ClusterRef) → same_cluster_ref a b ≡ true → a ≡ b
+places_are (cluster_ref.Known x) (cluster_ref.Known y) h = ap (λ (n : ℕ). cluster_ref.Known n) (eqb-true x y h)
+places_are (cluster_ref.Stranger m) (cluster_ref.Stranger n) h = ap (λ (l : List ℕ). cluster_ref.Stranger l) (bytes_are m n h)
+places_are (cluster_ref.Known x) (cluster_ref.Stranger n) h = absurd (false≢true h)
+places_are (cluster_ref.Stranger m) (cluster_ref.Known y) h = absurd (false≢true h)
 
 pairs_are_one : (r q : ClusterPosition) → same_pair r q ≡ true → r ≡ q
 pairs_are_one r q h =
-    let make : Place → Position → ClusterPosition = λ a p. record { cluster = a; position = p } in
-    pair_ap make (places_are r.cluster q.cluster (left (same_place r.cluster q.cluster) (same_position r.position q.position) h))
-    (positions_are r.position q.position (right (same_place r.cluster q.cluster) (same_position r.position q.position) h))
+    let make : ClusterRef → Position → ClusterPosition = λ a p. record { cluster = a; position = p } in
+    pair_ap make (places_are r.cluster q.cluster (left (same_cluster_ref r.cluster q.cluster) (same_position r.position q.position) h))
+    (positions_are r.position q.position (right (same_cluster_ref r.cluster q.cluster) (same_position r.position q.position) h))
 
 pairs_are : (rs qs : List ClusterPosition) → same_pairs rs qs ≡ true → rs ≡ qs
 pairs_are [] [] h = refl
@@ -50,7 +50,7 @@ pairs_are (r ∷ rs) (q ∷ qs) h =
 
 markers_are : (m n : Marker) → same_marker m n ≡ true → m ≡ n
 markers_are (marker.Request i a) (marker.Request j b) h =
-    pair_ap (λ (l : List ℕ) (c : Place). marker.Request l c) (bytes_are i j (left (bytes_eq i j) (same_place a b) h)) (places_are a b (right (bytes_eq i j) (same_place a b) h))
+    pair_ap (λ (l : List ℕ) (c : ClusterRef). marker.Request l c) (bytes_are i j (left (bytes_eq i j) (same_cluster_ref a b) h)) (places_are a b (right (bytes_eq i j) (same_cluster_ref a b) h))
 markers_are (marker.Response i a) (marker.Response j b) h =
     pair_ap (λ (l : List ℕ) (c : ClusterPosition). marker.Response l c) (bytes_are i j (left (bytes_eq i j) (same_pair a b) h))
     (pairs_are_one a b (right (bytes_eq i j) (same_pair a b) h))

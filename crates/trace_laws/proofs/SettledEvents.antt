@@ -1,4 +1,4 @@
--- What the lines of an event settle, behind its first k writes, and what the event settles.
+-- What the lines of an event settle, after its first k writes, and what the event settles.
 use Rattle.std.proofs.Common.{◌≡◌, ℕ, zero, suc, Bool, true, false, ap, List, [], ◌∷◌, refl, sym, subst, ◌∙◌, inl, inr}
 use Rattle.std.specs.Prelude.{◌⊎◌, Option, Some, None, if◌then◌else◌, take}
 use Rattle.std.specs.List.{list_any}
@@ -151,7 +151,7 @@ pub record WasThere (b : Broker) (n is : List ℕ) (e : Entry) : Type 0 where
   pub among : AmongIndexes b.entries is e
   pub before : has (cursor_of (sub_named b.subs n)) among.index ≡ true
 
--- AND NO LESS than each message of a plan that names it, but for what was in the cursor: behind one write at least
+-- AND NO LESS than each message of a plan that names it, but for what was in the cursor: after one write at least
 pub names_out : (s : Setup) (a : Mirrors) (t x k : ℕ) (b : Broker) (ws : List Write) (n is : List ℕ) (e : Entry) → mirror_at s a t x ≡ seen b
     → ((i : ℕ) → has is i ≡ true → Named n i ws) → Among e (messages_at b.entries is)
     → WasThere b n is e ⊎ Among e (Lines s a t x cause.Client b (take (suc k) ws) t n)

@@ -53,7 +53,7 @@ use Rattle.trace_laws.proofs.Writes.{seen_at}
 abbrev pub the_none : List Ident
 the_none = []
 
--- ---- lines behind lines
+-- ---- lines after lines
 
 pub lines_append : (s : Setup) (a : Mirrors) (is js : List Item) (t : ℕ) (n : List ℕ) → settled_from s a (is ++ js) t n ≡ settled_from s a is t n ++ settled_from s (all_told s a is) js t n
 lines_append s a [] js t n = refl
@@ -114,7 +114,7 @@ settling_quiet s r (e ∷ es) h =
     let r' : Ran = settles all_limits s r e in
     silent_both s (unless_ended r' (event_items s r.world e)) (settling_items all_limits s r' es) (silent_unless s r' (event_items s r.world e) (quiet_event s r.world e h.0)) (settling_quiet s r' es h.1)
 
--- ---- THE LINES OF AN EVENT, behind its first k writes, m being its number
+-- ---- THE LINES OF AN EVENT, after its first k writes, m being its number
 
 abbrev pub EventLines : Setup → World → ℕ → ℕ → Event → Option Planned → SettledSoFar
 EventLines s w m k e o u n = settled_from s (record { topics = map seen w.brokers; events = m }) (planned_items s w k e o) u n

@@ -120,7 +120,7 @@ quiet_items s h t x c u n b (write.Delete m ∷ ws) a q =
     let act = Deletes m in let b' = written h.per_ledger b (write.Delete m) in let a' = told s a (Writes t x act) in
     ap (λ (l : List Ident). l ++ settled_from s a' (told_at t x (acts_of h c b' ws)) u n) (quiet_line s a t x act u n refl) ∙ quiet_items s h t x c u n b' ws a' q.1
 quiet_items s h t x c u n b (write.Alter m kind replicated ∷ ws) a q = quiet_items s h t x c u n (written h.per_ledger b (write.Alter m kind replicated)) ws a q.1
-quiet_items s h t x c u n b (write.SenderAck y i ∷ ws) a q = quiet_items s h t x c u n (written h.per_ledger b (write.SenderAck y i)) ws a q.1
+quiet_items s h t x c u n b (write.ReplicatorAck y i ∷ ws) a q = quiet_items s h t x c u n (written h.per_ledger b (write.ReplicatorAck y i)) ws a q.1
 quiet_items s h t x c u n b (write.SessionNumber y i ∷ ws) a q = quiet_items s h t x c u n (written h.per_ledger b (write.SessionNumber y i)) ws a q.1
 quiet_items s h t x c u n b (write.Ledger ∷ ws) a q = quiet_items s h t x c u n (written h.per_ledger b write.Ledger) ws a q.1
 
@@ -145,13 +145,13 @@ reads_quiet h b y q (Reads.Counts i e id answer u u' next is heard) = (tt, tt)
 reads_quiet h b y q (Reads.AsksAgain i e id answer u u' next is heard) = (tt, (tt, tt))
 reads_quiet h b y q (Reads.Completes i e id answer u u' next is heard) = (tt, (tt, tt))
 reads_quiet h b y q (Reads.CreatesAt i j e m remote next is absent) = (refl, (not_client b y, (tt, tt)))
-reads_quiet h b y q (Reads.PassesOver i j e m remote v ws next is found after) =
-    (not_client b y, each_both (QuietWrite (read_cause b y)) ws (write.SenderAck y i ∷ []) (quiet_updates h b _ (read_cause b y) ws after) (tt, tt))
+reads_quiet h b y q (Reads.ActsOnUpdate i j e m remote v ws next is found after) =
+    (not_client b y, each_both (QuietWrite (read_cause b y)) ws (write.ReplicatorAck y i ∷ []) (quiet_updates h b _ (read_cause b y) ws after) (tt, tt))
 
 pub offers_quiet : (h : Site) (b : Broker) (n : List ℕ) (q : Plan) → Offers h b n q → Each (QuietWrite cause.Marker) q.writes
 offers_quiet h b n q Offers.NothingToOffer = tt
 offers_quiet h b n q (Offers.Gives v i at e due is picked) = tt
-offers_quiet h b n q (Offers.PassesBy v i e ws due silent after) = (marker_not_client, quiet_updates h b _ cause.Marker ws after)
+offers_quiet h b n q (Offers.SkipsMarker v i e ws due silent after) = (marker_not_client, quiet_updates h b _ cause.Marker ws after)
 offers_quiet h b n q (Offers.Caches v i j e c ws due is after) = (marker_not_client, quiet_updates h b _ cause.Marker ws after)
 
 pub served_first : (h : Site) (b : Broker) (c : ℕ) (p : Packet) (q : Plan) → Served h b c p q → FirstOnly cause.Client q.writes
@@ -361,7 +361,7 @@ first_in s a t x c b w ws more is tells quiet u n e h = by w tells h
         silent act (λ l. refl) (only act (written s.per_ledger b (write.Append f)) k)
     by (write.Delete m) tells k = silent (Deletes m) (λ l. refl) (only (Deletes m) (written s.per_ledger b (write.Delete m)) k)
     by (write.Alter m kind replicated) tells k = none (written s.per_ledger b (write.Alter m kind replicated)) k
-    by (write.SenderAck y i) tells k = none (written s.per_ledger b (write.SenderAck y i)) k
+    by (write.ReplicatorAck y i) tells k = none (written s.per_ledger b (write.ReplicatorAck y i)) k
     by (write.SessionNumber y i) tells k = none (written s.per_ledger b (write.SessionNumber y i)) k
     by write.Ledger tells k = none (written s.per_ledger b write.Ledger) k
 

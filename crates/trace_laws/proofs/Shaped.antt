@@ -9,23 +9,23 @@ use Rattle.std.proofs.lemmas.Slice.Eq.{bytes_eq-Decides}
 use Rattle.world_laws.proofs.Types.{CachedSnapshot, Entry, Packet, Position, Write}
 use Rattle.world_laws.proofs.Types.content
 use Rattle.world_laws.proofs.Types.marker
-use Rattle.world_laws.proofs.Types.place
+use Rattle.world_laws.proofs.Types.cluster_ref
 use Rattle.world_laws.proofs.Types.sub_kind
 use Rattle.world_laws.proofs.Types.targets
 use Rattle.world_laws.proofs.Types.write
-use Rattle.geo_base.specs.Broker.{Broker, Site, cluster_name, no_broker, sender_at, sub_named, written}
+use Rattle.geo_base.specs.Broker.{Broker, Site, cluster_name, no_broker, replicator_at, sub_named, written}
 use Rattle.geo_base.specs.Cache.{cached}
 use Rattle.geo_base.specs.Cursor.{has}
 use Rattle.geo_base.specs.Entry.{goes_to, is_data, meant_for, with_origin}
 use Rattle.geo_base.specs.Forwarding.{closes}
 use Rattle.geo_base.specs.Markers.{request_marker, response_marker}
 use Rattle.geo_base.specs.Plan.{Plan, all_written, quiet_plan}
-use Rattle.geo_base.specs.Sender.{index_to_read}
+use Rattle.geo_base.specs.Replicator.{index_to_read}
 use Rattle.geo_base.specs.Seeking.{seek_index}
 use Rattle.geo_base.specs.Setup.{Setup}
 use Rattle.geo_base.specs.Subscription.{Subscription, has_consumer, new_subscription, sought, with_acks}
 use Rattle.geo_base.specs.Topic.{accepts, position_at}
-use Rattle.geo_base.specs.Updating.{passed_over}
+use Rattle.geo_base.specs.Updating.{updated_indexes}
 use Rattle.geo_base.specs.World.{World, node, site, topic_at}
 use Rattle.world_laws.proofs.TopicOrder.Added.{sound_data}
 use Rattle.world_laws.proofs.Snapshotting.Answering.{Numbered, writes_steady}
@@ -77,7 +77,7 @@ fresh_left es (write.Alter n kind replicated ∷ ws) vs h = fresh_left es ws vs 
 fresh_left es (write.Delete n ∷ ws) vs h = fresh_left es ws vs h
 fresh_left es (write.Acks n is ∷ ws) vs h = fresh_left es ws vs h
 fresh_left es (write.Seek n i ∷ ws) vs h = fresh_left es ws vs h
-fresh_left es (write.SenderAck y i ∷ ws) vs h = fresh_left es ws vs h
+fresh_left es (write.ReplicatorAck y i ∷ ws) vs h = fresh_left es ws vs h
 fresh_left es (write.SessionNumber y i ∷ ws) vs h = fresh_left es ws vs h
 fresh_left es (write.Ledger ∷ ws) vs h = fresh_left es ws vs h
 
@@ -142,14 +142,14 @@ served_holds s w n t x k p q h (Served.ClosesConsumer v id request u at is by) n
 
 request_holds : (s : Setup) (w : World) (n t x : ℕ) (c : Cause) (id : List ℕ) → Here s w t x → accepts (topic_at s w t x).entries (request_marker (site s t x) (topic_at s w t x) id).ident ≡ true
     → WriteHolds s w.brokers n t x c (topic_at s w t x) (write.Append (request_marker (site s t x) (topic_at s w t x) id))
-request_holds s w n t x c id h new = marker_holds s w n t x c (marker.Request id (place.Known x)) targets.All [] h refl refl new
+request_holds s w n t x c id h new = marker_holds s w n t x c (marker.Request id (cluster_ref.Known x)) targets.All [] h refl refl new
 
 response_holds : (s : Setup) (w : World) (n t x : ℕ) (c : Cause) (y : ℕ) (id : List ℕ) → Here s w t x
     → accepts (topic_at s w t x).entries (response_marker (site s t x) (topic_at s w t x) y id).ident ≡ true
     → WriteHolds s w.brokers n t x c (topic_at s w t x) (write.Append (response_marker (site s t x) (topic_at s w t x) y id))
 response_holds s w n t x c y id h new =
     let b = topic_at s w t x in
-    marker_holds s w n t x c (marker.Response id (record { cluster = place.Known x; position = position_at b.ledgers (length b.entries - 1) })) (targets.Only (2 ^ y))
+    marker_holds s w n t x c (marker.Response id (record { cluster = cluster_ref.Known x; position = position_at b.ledgers (length b.entries - 1) })) (targets.Only (2 ^ y))
     (cluster_name (site s t x) y ∷ []) h refl refl new
 
 -- ---- snap, offer, seek
@@ -174,7 +174,7 @@ pub offers_hold : (s : Setup) (w : World) (n t x : ℕ) (m : List ℕ) (q : Plan
     → fresh (topic_at s w t x).entries q.writes ≡ true → PlanHolds s w.brokers n t x cause.Marker (topic_at s w t x) q.writes
 offers_hold s w n t x m q h Offers.NothingToOffer new = tt
 offers_hold s w n t x m q h (Offers.Gives v i at e due is picked) new = tt
-offers_hold s w n t x m q h (Offers.PassesBy v i e ws due silent after) new =
+offers_hold s w n t x m q h (Offers.SkipsMarker v i e ws due silent after) new =
     let b = topic_at s w t x in let stands = by_name b.subs m v due.0 in let found = found_self b.subs v h.apart stands in
     acks_plan s w n t x cause.Marker v (i ∷ []) v.cache ws h found
     (acks_hold s w n t x cause.Marker v.name (i ∷ []) v h found (one_within s w t x i e due.2) (marker_accepted x b v.name v.cursor i e due.2 silent))
@@ -230,12 +230,12 @@ none_cursor (v ∷ vs) n set h = by (bytes_eq v.name n) refl h (none_cursor vs n
     by false is e ih = (λ same. absurd (false≢true (sym is ∙ same)), ih e)
 
 -- what an update passes over is stored
-over_within : (y j : ℕ) (es : List Entry) (i : ℕ) → has (passed_over y 0 (j + 1) es) i ≡ true → i < length es
+over_within : (y j : ℕ) (es : List Entry) (i : ℕ) → has (updated_indexes y 0 (j + 1) es) i ≡ true → i < length es
 over_within y j es i h =
     let o = passed_over_is y 0 (j + 1) es i h in let lt = slice_get_within es o.place o.entry o.at in let same = o.is in omega (arith, lt, same)
 
 abbrev pub read_cause : Broker → ℕ → Cause
-read_cause b y = cause.Update (position_read b (index_to_read (sender_at b y).state (sender_at b y) (length b.entries)))
+read_cause b y = cause.Update (position_read b (index_to_read (replicator_at b y).state (replicator_at b y) (length b.entries)))
 
 pub reads_hold : (s : Setup) (w : World) (n t x y : ℕ) (q : Plan) → Here s w t x → Reads (site s t x) (topic_at s w t x) y q → fresh (topic_at s w t x).entries q.writes ≡ true
     → PlanHolds s w.brokers n t x (read_cause (topic_at s w t x) y) (topic_at s w t x) q.writes
@@ -247,7 +247,7 @@ reads_hold s w n t x y q h (Reads.Counts i e id answer u u' next is heard) new =
 reads_hold s w n t x y q h (Reads.AsksAgain i e id answer u u' next is heard) new = (request_holds s w n t x (read_cause (topic_at s w t x) y) _ h (left _ true new), (tt, tt))
 reads_hold s w n t x y q h (Reads.Completes i e id answer u u' next is heard) new = (completes_holds s w n t x (read_cause (topic_at s w t x) y) y i e id answer u u' h next is heard (left _ true new), (tt, tt))
 reads_hold s w n t x y q h (Reads.CreatesAt i j e m remote next is absent) new =
-    let b = topic_at s w t x in let is' = passed_over y 0 (j + 1) b.entries in
+    let b = topic_at s w t x in let is' = updated_indexes y 0 (j + 1) b.entries in
     let fresh_sub : Subscription = new_subscription m sub_kind.Exclusive true [] in
     let made : Broker = record b { subs = b.subs ++ fresh_sub ∷ [] } in
     let c = read_cause b y in
@@ -262,8 +262,8 @@ reads_hold s w n t x y q h (Reads.CreatesAt i j e m remote next is absent) new =
           (passes_accepted x y made m [] remote i j e _ (numbered_here s w t x h) next.2 (eqb-true e.ident.origin y is.0.1) (differ y x (remote_other (site s t x) y next.0)) is.1 is.2 (ap (position_read b) next.1)),
     ) in
     (absent, (subst (λ (z : Broker). WriteHolds s w.brokers n t x c z (write.Acks m is')) one acks, (tt, tt)))
-reads_hold s w n t x y q h (Reads.PassesOver i j e m remote v ws next is found after) new =
-    let b = topic_at s w t x in let is' = passed_over y 0 (j + 1) b.entries in
+reads_hold s w n t x y q h (Reads.ActsOnUpdate i j e m remote v ws next is found after) new =
+    let b = topic_at s w t x in let is' = updated_indexes y 0 (j + 1) b.entries in
     let c = read_cause b y in
     let at = find_stands (λ (u : Subscription). bytes_eq u.name m) b.subs v found in
     let name : v.name ≡ m = (bytes_eq-Decides v.name m).0 at.1 in
@@ -273,8 +273,8 @@ reads_hold s w n t x y q h (Reads.PassesOver i j e m remote v ws next is found a
     acks_plan s w n t x c v is' v.cache ws h mine
     (acks_hold s w n t x c v.name is' v h mine (over_within y j b.entries)
     (passes_accepted x y b v.name v.cursor remote i j e _ (numbered_here s w t x h) next.2 (eqb-true e.ident.origin y is.0.1) (differ y x (remote_other (site s t x) y next.0)) told is.2 (ap (position_read b) next.1)))
-    (stems_of s w t x v h at.0) after (fresh_left b.entries ws (write.SenderAck y i ∷ []) new) in
-    holds_both s w.brokers n t x c b (write.Acks m is' ∷ ws) (write.SenderAck y i ∷ []) (subst (λ (k : List ℕ). PlanHolds s w.brokers n t x c b (write.Acks k is' ∷ ws)) name plan) (tt, tt)
+    (stems_of s w t x v h at.0) after (fresh_left b.entries ws (write.ReplicatorAck y i ∷ []) new) in
+    holds_both s w.brokers n t x c b (write.Acks m is' ∷ ws) (write.ReplicatorAck y i ∷ []) (subst (λ (k : List ℕ). PlanHolds s w.brokers n t x c b (write.Acks k is' ∷ ws)) name plan) (tt, tt)
 
 -- ---- take
 
@@ -367,7 +367,7 @@ came_plan s w n t x y c pre (write.Alter m kind replicated ∷ ws) h small other
 came_plan s w n t x y c pre (write.Delete m ∷ ws) h small other lt came new knows = absurd came.0
 came_plan s w n t x y c pre (write.Acks m is ∷ ws) h small other lt came new knows = absurd came.0
 came_plan s w n t x y c pre (write.Seek m i ∷ ws) h small other lt came new knows = absurd came.0
-came_plan s w n t x y c pre (write.SenderAck z i ∷ ws) h small other lt came new knows = absurd came.0
+came_plan s w n t x y c pre (write.ReplicatorAck z i ∷ ws) h small other lt came new knows = absurd came.0
 came_plan s w n t x y c pre (write.SessionNumber z i ∷ ws) h small other lt came new knows = absurd came.0
 came_plan s w n t x y c pre (write.Ledger ∷ ws) h small other lt came new knows = absurd came.0
 
@@ -384,34 +384,34 @@ fated_came per h b x p q (Fated.Once r k) = taken_came h b x p r k
 fated_came per h b x p q Fated.Lost = tt
 fated_came per h b x p q (Fated.Twice r r' k k') = each_both (CameWrite x) r.writes r'.writes (taken_came h b x p r k) (taken_came h _ x p r' k')
 
--- ---- receipt: the sender's cursor alone
+-- ---- receipt: the replicator's cursor alone
 
-abbrev SenderWrite : Write → Type 0
-SenderWrite (write.SenderAck y i) = Unit {0}
-SenderWrite w = ⊥
+abbrev ReplicatorWrite : Write → Type 0
+ReplicatorWrite (write.ReplicatorAck y i) = Unit {0}
+ReplicatorWrite w = ⊥
 
-answered_senders : (b : Broker) (y : ℕ) (p : Packet) (q : Plan) → Answered b y p q → Each SenderWrite q.writes
-answered_senders b y p q (Answered.Stale other) = tt
-answered_senders b y p q (Answered.Other at other) = tt
-answered_senders b y p q (Answered.Opened request name at is state) = tt
-answered_senders b y p q (Answered.OpenBefore request name at is state) = tt
-answered_senders b y p q (Answered.ClosedBefore request name at is state) = tt
-answered_senders b y p q (Answered.Received id n i position at is pending) = (tt, tt)
-answered_senders b y p q (Answered.ReceivedBefore id n position at is pending) = tt
+answered_replicators : (b : Broker) (y : ℕ) (p : Packet) (q : Plan) → Answered b y p q → Each ReplicatorWrite q.writes
+answered_replicators b y p q (Answered.Stale other) = tt
+answered_replicators b y p q (Answered.Other at other) = tt
+answered_replicators b y p q (Answered.Opened request name at is state) = tt
+answered_replicators b y p q (Answered.OpenBefore request name at is state) = tt
+answered_replicators b y p q (Answered.ClosedBefore request name at is state) = tt
+answered_replicators b y p q (Answered.Received id n i position at is pending) = (tt, tt)
+answered_replicators b y p q (Answered.ReceivedBefore id n position at is pending) = tt
 
-pub fated_senders : (per : ℕ) (b : Broker) (y : ℕ) (p : Packet) (q : Plan) → Fated per b (λ c. Answered c y p) (quiet_plan []) q → Each SenderWrite q.writes
-fated_senders per b y p q (Fated.Once r k) = answered_senders b y p r k
-fated_senders per b y p q Fated.Lost = tt
-fated_senders per b y p q (Fated.Twice r r' k k') = each_both SenderWrite r.writes r'.writes (answered_senders b y p r k) (answered_senders _ y p r' k')
+pub fated_replicators : (per : ℕ) (b : Broker) (y : ℕ) (p : Packet) (q : Plan) → Fated per b (λ c. Answered c y p) (quiet_plan []) q → Each ReplicatorWrite q.writes
+fated_replicators per b y p q (Fated.Once r k) = answered_replicators b y p r k
+fated_replicators per b y p q Fated.Lost = tt
+fated_replicators per b y p q (Fated.Twice r r' k k') = each_both ReplicatorWrite r.writes r'.writes (answered_replicators b y p r k) (answered_replicators _ y p r' k')
 
-pub senders_hold : (s : Setup) (bs : List Broker) (n t x : ℕ) (c : Cause) (b : Broker) (ws : List Write) → Each SenderWrite ws → PlanHolds s bs n t x c b ws
-senders_hold s bs n t x c b [] h = tt
-senders_hold s bs n t x c b (write.SenderAck y i ∷ ws) h = (tt, senders_hold s bs n t x c (written s.per_ledger b (write.SenderAck y i)) ws h.1)
-senders_hold s bs n t x c b (write.Append e ∷ ws) h = absurd h.0
-senders_hold s bs n t x c b (write.Create m kind replicated latest ∷ ws) h = absurd h.0
-senders_hold s bs n t x c b (write.Alter m kind replicated ∷ ws) h = absurd h.0
-senders_hold s bs n t x c b (write.Delete m ∷ ws) h = absurd h.0
-senders_hold s bs n t x c b (write.Acks m is ∷ ws) h = absurd h.0
-senders_hold s bs n t x c b (write.Seek m i ∷ ws) h = absurd h.0
-senders_hold s bs n t x c b (write.SessionNumber z i ∷ ws) h = absurd h.0
-senders_hold s bs n t x c b (write.Ledger ∷ ws) h = absurd h.0
+pub replicators_hold : (s : Setup) (bs : List Broker) (n t x : ℕ) (c : Cause) (b : Broker) (ws : List Write) → Each ReplicatorWrite ws → PlanHolds s bs n t x c b ws
+replicators_hold s bs n t x c b [] h = tt
+replicators_hold s bs n t x c b (write.ReplicatorAck y i ∷ ws) h = (tt, replicators_hold s bs n t x c (written s.per_ledger b (write.ReplicatorAck y i)) ws h.1)
+replicators_hold s bs n t x c b (write.Append e ∷ ws) h = absurd h.0
+replicators_hold s bs n t x c b (write.Create m kind replicated latest ∷ ws) h = absurd h.0
+replicators_hold s bs n t x c b (write.Alter m kind replicated ∷ ws) h = absurd h.0
+replicators_hold s bs n t x c b (write.Delete m ∷ ws) h = absurd h.0
+replicators_hold s bs n t x c b (write.Acks m is ∷ ws) h = absurd h.0
+replicators_hold s bs n t x c b (write.Seek m i ∷ ws) h = absurd h.0
+replicators_hold s bs n t x c b (write.SessionNumber z i ∷ ws) h = absurd h.0
+replicators_hold s bs n t x c b (write.Ledger ∷ ws) h = absurd h.0

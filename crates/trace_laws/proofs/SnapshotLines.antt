@@ -9,7 +9,7 @@ use Rattle.world_laws.proofs.Types.marker
 use Rattle.geo_base.specs.Cursor.{below}
 use Rattle.geo_base.specs.Entry.{is_data, meant_for}
 use Rattle.geo_base.specs.Setup.{Setup}
-use Rattle.geo_base.specs.Updating.{passes, positions_for}
+use Rattle.geo_base.specs.Updating.{is_updated, positions_for}
 use Rattle.world_laws.proofs.Walks.Walk.{by_test, left, right}
 use Rattle.geo_base.specs.Mirror.{Mirror, Mirrors, index_at, mirror_at}
 use Rattle.geo_base.specs.Audit.{covers, index_named, is_covered, is_cut, is_named_once, may_snapshot, names_each, position_named, same_entry}

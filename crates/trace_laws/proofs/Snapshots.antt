@@ -5,14 +5,13 @@ use Rattle.std.specs.List.{list_all, list_any, range_with_len}
 use Rattle.std.specs.Str.{bytes_eq}
 use Rattle.std.proofs.lemmas.Bool.{eq-eqb, false≢true}
 use Rattle.std.proofs.lemmas.Option.{none-some, same_Some}
-use Rattle.std.proofs.lemmas.Slice.Eq.{bytes_eq-Decides}
-use Rattle.world_laws.proofs.Types.{ClusterPosition, Content, Cut, Entry, Marker, Place, Position, Targets}
+use Rattle.world_laws.proofs.Types.{ClusterPosition, Content, Cut, Entry, Marker, ClusterRef, Position, Targets}
 use Rattle.world_laws.proofs.Types.content
 use Rattle.world_laws.proofs.Types.marker
-use Rattle.world_laws.proofs.Types.place
+use Rattle.world_laws.proofs.Types.cluster_ref
 use Rattle.world_laws.proofs.Types.targets
 use Rattle.geo_base.specs.Broker.{Broker, no_broker}
-use Rattle.geo_base.specs.Builder.{named, named_from}
+use Rattle.geo_base.specs.SnapshotBuilder.{named, named_from}
 use Rattle.geo_base.specs.Cuts.{Covers, CoversCluster, IsCut}
 use Rattle.geo_base.specs.Entry.{is_data, meant_for, same_ident, same_stream}
 use Rattle.geo_base.specs.Setup.{Setup}
@@ -25,33 +24,31 @@ use Rattle.world_laws.proofs.Replicating.Prefixes.{same_self}
 use Rattle.world_laws.proofs.Replicating.Sizes.{IsThere}
 use Rattle.world_laws.proofs.Walks.Walk.{both, by_test}
 use Rattle.geo_base.specs.Mirror.{Mirror, index_at, mirror_at, no_mirror, mirror_number}
-use Rattle.geo_base.specs.Audit.{covers, index_named, is_covered, is_cut, is_named_once, may_snapshot, names_each, position_named, same_content, same_entry, same_key, same_marker, same_pair, same_pairs, same_place, same_targets}
+use Rattle.geo_base.specs.Audit.{covers, index_named, is_covered, is_cut, is_named_once, may_snapshot, names_each, position_named, same_content, same_entry, same_key, same_marker, same_pair, same_pairs, same_cluster_ref, same_targets}
 use Rattle.trace_laws.specs.Seen.{seen, world_seen}
 use Rattle.trace_laws.proofs.Lists.{of_take, in_take}
 use Rattle.trace_laws.proofs.Places.{index_seen, position_itself}
+use Rattle.geo_base.proofs.Lists.{bytes_eq_itself}
 
 -- ---- an entry is the same as itself
 
-bytes_themselves : (m : List ℕ) → bytes_eq m m ≡ true
-bytes_themselves m = (bytes_eq-Decides m m).1 refl
-
-place_itself : (a : Place) → same_place a a ≡ true
-place_itself (place.Known x) = eq-eqb x x refl
-place_itself (place.Stranger n) = bytes_themselves n
+place_itself : (a : ClusterRef) → same_cluster_ref a a ≡ true
+place_itself (cluster_ref.Known x) = eq-eqb x x refl
+place_itself (cluster_ref.Stranger n) = bytes_eq_itself n
 
 pair_itself : (r : ClusterPosition) → same_pair r r ≡ true
-pair_itself r = both (same_place r.cluster r.cluster) _ (place_itself r.cluster) (position_itself r.position r.position refl)
+pair_itself r = both (same_cluster_ref r.cluster r.cluster) _ (place_itself r.cluster) (position_itself r.position r.position refl)
 
 pairs_themselves : (rs : List ClusterPosition) → same_pairs rs rs ≡ true
 pairs_themselves [] = refl
 pairs_themselves (r ∷ rs) = both (same_pair r r) (same_pairs rs rs) (pair_itself r) (pairs_themselves rs)
 
 marker_itself : (m : Marker) → same_marker m m ≡ true
-marker_itself (marker.Request i a) = both (bytes_eq i i) (same_place a a) (bytes_themselves i) (place_itself a)
-marker_itself (marker.Response i a) = both (bytes_eq i i) (same_pair a a) (bytes_themselves i) (pair_itself a)
+marker_itself (marker.Request i a) = both (bytes_eq i i) (same_cluster_ref a a) (bytes_eq_itself i) (place_itself a)
+marker_itself (marker.Response i a) = both (bytes_eq i i) (same_pair a a) (bytes_eq_itself i) (pair_itself a)
 marker_itself (marker.Snapshot i p rs) =
-    both _ (same_pairs rs rs) (both (bytes_eq i i) _ (bytes_themselves i) (position_itself p p refl)) (pairs_themselves rs)
-marker_itself (marker.Update n rs) = both (bytes_eq n n) (same_pairs rs rs) (bytes_themselves n) (pairs_themselves rs)
+    both _ (same_pairs rs rs) (both (bytes_eq i i) _ (bytes_eq_itself i) (position_itself p p refl)) (pairs_themselves rs)
+marker_itself (marker.Update n rs) = both (bytes_eq n n) (same_pairs rs rs) (bytes_eq_itself n) (pairs_themselves rs)
 
 content_itself : (c : Content) → same_content c c ≡ true
 content_itself content.Data = refl
@@ -64,7 +61,7 @@ targets_themselves (targets.Only b) = eq-eqb b b refl
 
 key_itself : (k : Option (List ℕ)) → same_key k k ≡ true
 key_itself None = refl
-key_itself (Some k) = bytes_themselves k
+key_itself (Some k) = bytes_eq_itself k
 
 pub entry_itself : (e : Entry) → same_entry e e ≡ true
 entry_itself e =
@@ -73,7 +70,7 @@ entry_itself e =
     both (a && b && c && d) g
     (both (a && b && c) d
     (both (a && b) c (both a b (both (same_stream e.ident e.ident) (e.ident.seq == e.ident.seq) (same_self e.ident) (eq-eqb e.ident.seq e.ident.seq refl)) (targets_themselves e.to))
-    (content_itself e.content)) (key_itself e.meta.key)) (bytes_themselves e.payload)
+    (content_itself e.content)) (key_itself e.meta.key)) (bytes_eq_itself e.payload)
 
 -- ---- tests over lists
 

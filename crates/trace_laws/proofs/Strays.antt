@@ -1,5 +1,5 @@
 -- On the link of a client that no script declares, or to a cluster that none declares, nothing is ever sent.
-use Rattle.std.proofs.Common.{◌≡◌, ℕ, zero, suc, ◌≤◌, false, List, [], ◌∷◌, length, map, replicate, refl, sym, ap, ◌∙◌, arith, inl, inr}
+use Rattle.std.proofs.Common.{◌≡◌, ℕ, zero, suc, ◌≤◌, false, List, [], length, map, replicate, sym, ap, ◌∙◌, arith, inl, inr}
 use Rattle.std.specs.Prelude.{◌&&◌, None, nat_lt, slice_index_or}
 use Rattle.std.proofs.lemmas.Bool.{cases_lt, false≢true, lt-ltb}
 use Rattle.std.proofs.lemmas.List.{length-map, length-replicate}
@@ -12,11 +12,7 @@ use Rattle.world_laws.specs.AlikeWorlds.{waiting, waiting_on}
 use Rattle.world_laws.proofs.KeptRuns.AlikeLinks.{get_map}
 use Rattle.world_laws.proofs.KeptRuns.Loaded.{Tables, empty_row, form}
 use Rattle.world_laws.proofs.Walks.Walk.{both}
-
-past_end : {X : Type 0} (xs : List X) (i : ℕ) (d : X) → length xs ≤ i → slice_index_or xs i d ≡ d
-past_end [] i d le = refl
-past_end (x ∷ xs) zero d le = absurd (omega (arith, le))
-past_end (x ∷ xs) (suc i) d le = past_end xs i d (omega (arith, le))
+use Rattle.geo_base.proofs.Lists.{index_or_past}
 
 -- how many links a row has
 abbrev row_length : List (List Link) → ℕ → ℕ
@@ -37,7 +33,7 @@ form_row m i =
     ∙ (length-map (waits_of row) (λ (ps : List Packet). []) ∙ length-map row waiting)
 
 table_row : (n k i : ℕ) → n ≤ i → row_length (table n k) i ≡ 0
-table_row n k i le = ap (λ (r : List Link). length r) (past_end (table n k) i no_links (let same = length-replicate n (replicate k no_link) in omega (arith, same, le)))
+table_row n k i le = ap (λ (r : List Link). length r) (index_or_past (table n k) i no_links (let same = length-replicate n (replicate k no_link) in omega (arith, same, le)))
 
 few_links : (n k i : ℕ) → row_length (table n k) i ≤ k
 few_links zero k i = omega arith
@@ -49,7 +45,7 @@ same_rows s w i h =
     sym (form_row w.links.to_broker i) ∙ ap (λ (f : List (List (List Packet))). length (slice_index_or f i [])) h.to_broker ∙ form_row (table (length s.clients) (length s.clusters)) i
 
 pub nothing_sent : (s : Setup) (w : World) (x c : ℕ) → Tables s w → (nat_lt x (length s.clusters) && has_client s c) ≡ false → next_packet (link_at w.links (ToBroker c x)) ≡ None
-nothing_sent s w x c h out = ap next_packet (past_end (slice_index_or w.links.to_broker c no_links) x no_link few)
+nothing_sent s w x c h out = ap next_packet (index_or_past (slice_index_or w.links.to_broker c no_links) x no_link few)
   where
     few : row_length w.links.to_broker c ≤ x
     few =

@@ -14,7 +14,7 @@ use Rattle.geo_base.specs.Cursor.{below, has, with_indexes}
 use Rattle.geo_base.specs.Entry.{is_data, meant_for, same_ident}
 use Rattle.geo_base.specs.Settled.{SettledSoFar, first_indexes, messages_at}
 use Rattle.geo_base.specs.Setup.{Setup}
-use Rattle.geo_base.specs.Updating.{passes, positions_for}
+use Rattle.geo_base.specs.Updating.{is_updated, positions_for}
 use Rattle.world_laws.proofs.OnceInOrder.Members.{from_filter, get_push}
 use Rattle.world_laws.proofs.Telling.OnlyTold.{first_included, has_below, same_name}
 use Rattle.world_laws.proofs.Dispatching.Remembers.{any_right, has_either}
@@ -26,13 +26,14 @@ use Rattle.geo_base.specs.declared.planned.Cause.{Cause}
 use Rattle.geo_base.specs.declared.planned.Cause.TheVariants as cause
 use Rattle.geo_base.specs.TraceItems.{Acks, Act, Creates, Deletes, Seeks, Writes}
 use Rattle.geo_base.specs.Mirror.{Mirror, MirrorSub, Mirrors, index_at, indexes_settled, mirror_at, mirror_sub, mirror_number, settled_by, told, with_cursor}
-use Rattle.geo_base.specs.Audit.{act_refused, cause_refused, are_markers, are_new, entry_at, entry_by, is_marker, is_passed, only_named, passes_all, passes_at, passes_content, passes_entry, unless_broken}
+use Rattle.geo_base.specs.Audit.{act_refused, cause_refused, are_markers, are_new, entry_at, entry_by, is_marker, is_passed, only_named, are_all_updated, is_updated_at, content_updates, entry_updates, unless_broken}
 use Rattle.trace_laws.specs.Audited.{OnlySettledIn}
 use Rattle.trace_laws.proofs.Kept.{Kept, TellsSettled, TellsTo, TopicKept, all_lengths, as_before, left_alone, with_topic}
 use Rattle.trace_laws.proofs.Lists.{all_has}
 use Rattle.trace_laws.proofs.Refusals.{not_broken}
+use Rattle.geo_base.proofs.Lists.{bytes_eq_itself}
 
-meant : (y : ℕ) (e : Entry) → passes y e ≡ true → is_data e.content ≡ true → meant_for y e ≡ true
+meant : (y : ℕ) (e : Entry) → is_updated y e ≡ true → is_data e.content ≡ true → meant_for y e ≡ true
 meant y e h message = subst (λ (t : Bool). (not t || meant_for y e) ≡ true) message h
 
 -- a line that changes the subscriptions of topic t at x alone, to vs
@@ -66,7 +67,7 @@ settled_here : (s : Setup) (a : Mirrors) (t x : ℕ) (act : Act) (n : List ℕ)
     → settled_by s a (Writes t x act) t n ≡ messages_at (mirror_at s a t x).entries (indexes_settled (mirror_at s a t x) n act)
 settled_here s a t x act n = on_true (t == t) _ _ (eq-eqb t t refl)
 
--- so the messages at its indexes are settled behind it
+-- so the messages at its indexes are settled after it
 told_here : (s : Setup) (a : Mirrors) (settled : SettledSoFar) (t x : ℕ) (act : Act) (n : List ℕ) (is : List ℕ) → indexes_settled (mirror_at s a t x) n act ≡ is
     → (i : ℕ) → has is i ≡ true → i < length (mirror_at s a t x).entries → IsTold (told_too settled (settled_by s a (Writes t x act))) t n (mirror_at s a t x).entries i
 told_here s a settled t x act n is same i inside lt =
@@ -76,9 +77,6 @@ told_here s a settled t x act n is same i inside lt =
     let P : List Ident → Type 0 = λ l. list_any (same_ident e.ident) l ≡ true in
     any_right (same_ident e.ident) (settled t n) (settled_by s a (Writes t x act) t n)
     (subst P (sym (settled_here s a t x act n ∙ ap (messages_at es) same)) h)) i inside lt
-
-own_name : (n : List ℕ) → bytes_eq n n ≡ true
-own_name n = (bytes_eq-Decides n n).1 refl
 
 pub acks_kept : (s : Setup) (a : Mirrors) (settled : SettledSoFar) (t x : ℕ) (n is : List ℕ) (c : Cause) → IsThere s t x → Kept s a settled
     → act_refused s a t x (mirror_at s a t x) (Acks n is c) ≡ None
@@ -106,11 +104,11 @@ acks_kept s a settled t x n is c there kept h =
     stored (Some v) new i inside = ltb-true i (length m.entries) (left (nat_lt i (length m.entries)) _ (all_has (λ j. nat_lt j (length m.entries) && not (has v.cursor j)) is i new inside))
 
     -- what an update passes over is a marker, or settled
-    by_update : (p : Position) → passes_entry x m n is (entry_by m (Some p)) ≡ true → (i : ℕ) → has is i ≡ true → IsTold settled t n m.entries i
+    by_update : (p : Position) → entry_updates x m n is (entry_by m (Some p)) ≡ true → (i : ℕ) → has is i ≡ true → IsTold settled t n m.entries i
     by_update p passed i inside = by_index (index_at m p) passed
       where
         passes_to : (y j : ℕ) (u : Entry) (k : ℕ) (remote : List ClusterPosition) (ps : List Position) → slice_get m.entries k ≡ Some u → u.ident.origin ≡ y → y ≢ x
-            → u.content ≡ content.Marked (marker.Update n remote) → positions_for x remote ≡ ps → (o : Option ℕ) → only_named m ps ≡ o → passes_all y m is o ≡ true
+            → u.content ≡ content.Marked (marker.Update n remote) → positions_for x remote ≡ ps → (o : Option ℕ) → only_named m ps ≡ o → are_all_updated y m is o ≡ true
             → IsTold settled t n m.entries i
         passes_to y j u k remote ps at of other is_update named None only q = absurd (false≢true q)
         passes_to y j u k remote ps at of other is_update named (Some top) only q = by (slice_get m.entries i) refl (right (nat_le i top) _ each)
@@ -126,16 +124,16 @@ acks_kept s a settled t x n is c there kept h =
                 let P : List Position → Type 0 = λ qs. only_named m qs ≡ Some top in
                 same_Some _ _ (sym to.stored ∙ subst P (sym named ∙ to.names) only)
 
-            by : (o : Option Entry) → slice_get m.entries i ≡ o → passes_at y o ≡ true → IsTold settled t n m.entries i
+            by : (o : Option Entry) → slice_get m.entries i ≡ o → is_updated_at y o ≡ true → IsTold settled t n m.entries i
             by None here r = absurd (false≢true r)
             by (Some f) here r =
-                let le : i ≤ top = grind (arith, nat_tests, left (nat_le i top) (passes_at y (slice_get m.entries i)) each) in
+                let le : i ≤ top = grind (arith, nat_tests, left (nat_le i top) (is_updated_at y (slice_get m.entries i)) each) in
                 (f, here, λ message. to.told i f (omega (arith, le, top_is)) here message (meant y f r message))
 
-        by_content : (k : ℕ) (u : Entry) → slice_get m.entries k ≡ Some u → (d : Content) → u.content ≡ d → passes_content x u.ident.origin m n is d ≡ true → IsTold settled t n m.entries i
+        by_content : (k : ℕ) (u : Entry) → slice_get m.entries k ≡ Some u → (d : Content) → u.content ≡ d → content_updates x u.ident.origin m n is d ≡ true → IsTold settled t n m.entries i
         by_content k u at (content.Marked (marker.Update name remote)) is_update q =
             let first = bytes_eq name n in let second = not (u.ident.origin == x) in
-            let third = passes_all u.ident.origin m is (only_named m (positions_for x remote)) in
+            let third = are_all_updated u.ident.origin m is (only_named m (positions_for x remote)) in
             let two = left (first && second) third q in
             let same : name ≡ n = (bytes_eq-Decides name n).0 (left first second two) in
             passes_to u.ident.origin 0 u k remote (positions_for x remote) at refl
@@ -148,11 +146,11 @@ acks_kept s a settled t x n is c there kept h =
         by_content k u at content.Data is_update q = absurd (false≢true q)
         by_content k u at (content.Unread number) is_update q = absurd (false≢true q)
 
-        by_entry : (k : ℕ) (o : Option Entry) → slice_get m.entries k ≡ o → passes_entry x m n is o ≡ true → IsTold settled t n m.entries i
+        by_entry : (k : ℕ) (o : Option Entry) → slice_get m.entries k ≡ o → entry_updates x m n is o ≡ true → IsTold settled t n m.entries i
         by_entry k None at q = absurd (false≢true q)
         by_entry k (Some u) at q = by_content k u at u.content refl q
 
-        by_index : (o : Option ℕ) → passes_entry x m n is (entry_at m o) ≡ true → IsTold settled t n m.entries i
+        by_index : (o : Option ℕ) → entry_updates x m n is (entry_at m o) ≡ true → IsTold settled t n m.entries i
         by_index None q = absurd (false≢true q)
         by_index (Some k) q = by_entry k (slice_get m.entries k) refl q
 
@@ -175,10 +173,10 @@ acks_kept s a settled t x n is c there kept h =
 
         by : (d : Cause) → c ≡ d → cause_refused x m n is d ≡ None → IsTold more t n m.entries i
         by cause.Client same q =
-            told_here s a settled t x (Acks n is c) n is (ap (λ (d : Cause). indexes_settled m n (Acks n is d)) same ∙ on_true (bytes_eq n n) is [] (own_name n)) i inside
+            told_here s a settled t x (Acks n is c) n is (ap (λ (d : Cause). indexes_settled m n (Acks n is d)) same ∙ on_true (bytes_eq n n) is [] (bytes_eq_itself n)) i inside
             (stored (mirror_sub m n) eight.0 i inside)
         by cause.Marker same q = told_more i (by_marker (not_broken 9 (are_markers m is) None q).0 i inside)
-        by (cause.Update p) same q = told_more i (by_update p (not_broken 10 (passes_entry x m n is (entry_by m (Some p))) None q).0 i inside)
+        by (cause.Update p) same q = told_more i (by_update p (not_broken 10 (entry_updates x m n is (entry_by m (Some p))) None q).0 i inside)
         by cause.Plain same q = absurd (none-some 1 (sym q))
         by cause.Seek same q = absurd (none-some 1 (sym q))
 
@@ -200,7 +198,7 @@ creates_kept s a settled t x n latest there kept =
     new true is i inside =
         let lt = has_below (length m.entries) i inside in
         told_here s a settled t x (Creates n latest) n (first_indexes (length m.entries))
-        (ap (λ (b : Bool). indexes_settled m n (Creates n b)) is ∙ on_true (bytes_eq n n) (first_indexes (length m.entries)) [] (own_name n)) i (has_first (length m.entries) i lt) lt
+        (ap (λ (b : Bool). indexes_settled m n (Creates n b)) is ∙ on_true (bytes_eq n n) (first_indexes (length m.entries)) [] (bytes_eq_itself n)) i (has_first (length m.entries) i lt) lt
     new false is i inside = absurd (false≢true inside)
 
     only : (k : ℕ) (v : MirrorSub) → slice_get (m.subs ++ record { name = n; cursor = if latest then below (length m.entries) else [] } ∷ []) k ≡ Some v → OnlySettledIn more t m v
@@ -234,5 +232,5 @@ seeks_kept s a settled t x n i there kept h =
     (λ v same old j inside.
     let lt = has_below i j inside in
     same_name more t m.entries v.name n j same
-    (told_here s a settled t x (Seeks n i) n (first_indexes i) (on_true (bytes_eq n n) (first_indexes i) [] (own_name n)) j (has_first i j lt) (omega (arith, lt, le))))
+    (told_here s a settled t x (Seeks n i) n (first_indexes i) (on_true (bytes_eq n n) (first_indexes i) [] (bytes_eq_itself n)) j (has_first i j lt) (omega (arith, lt, le))))
     m.subs (λ k v at. only_more settled more t m v all ((kept.topics t x there).only k v at)))

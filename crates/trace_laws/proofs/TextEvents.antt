@@ -81,7 +81,7 @@ all_told names (write.Alter n kind replicated ∷ ws) clean plain = (tt, all_tol
 all_told names (write.Delete n ∷ ws) clean plain = (tt, all_told names ws clean.1 plain)
 all_told names (write.Acks n is ∷ ws) clean plain = (tt, all_told names ws clean.1 plain)
 all_told names (write.Seek n i ∷ ws) clean plain = (tt, all_told names ws clean.1 plain)
-all_told names (write.SenderAck y i ∷ ws) clean plain = (tt, all_told names ws clean.1 plain)
+all_told names (write.ReplicatorAck y i ∷ ws) clean plain = (tt, all_told names ws clean.1 plain)
 all_told names (write.SessionNumber y i ∷ ws) clean plain = (tt, all_told names ws clean.1 plain)
 all_told names (write.Ledger ∷ ws) clean plain = (tt, all_told names ws clean.1 plain)
 
@@ -127,7 +127,7 @@ appended_few (write.Alter n kind replicated ∷ ws) = let h = appended_few ws in
 appended_few (write.Delete n ∷ ws) = let h = appended_few ws in omega (arith, h)
 appended_few (write.Acks n is ∷ ws) = let h = appended_few ws in omega (arith, h)
 appended_few (write.Seek n i ∷ ws) = let h = appended_few ws in omega (arith, h)
-appended_few (write.SenderAck y i ∷ ws) = let h = appended_few ws in omega (arith, h)
+appended_few (write.ReplicatorAck y i ∷ ws) = let h = appended_few ws in omega (arith, h)
 appended_few (write.SessionNumber y i ∷ ws) = let h = appended_few ws in omega (arith, h)
 appended_few (write.Ledger ∷ ws) = let h = appended_few ws in omega (arith, h)
 

@@ -230,7 +230,7 @@ entry_back s t x p e by names topic cluster small told of = go e.content refl to
 
 -- ---- the other lines
 
--- what stands behind the first word
+-- what stands after the first word
 abbrev place_words : Setup → ℕ → ℕ → List Word → List Word
 place_words s t x ws = name_at s.topics t ∷ name_at s.clusters x ∷ ws
 

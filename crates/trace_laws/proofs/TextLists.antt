@@ -3,7 +3,7 @@ use Rattle.std.proofs.Common.{◌≡◌, ℕ, suc, ◌+◌, ◌/◌, ◌%◌, �
 use Rattle.std.specs.Prelude.{if◌then◌else◌}
 use Rattle.std.specs.List.{list_all, join_with_byte}
 use Rattle.std.specs.Str.{bytes_eq}
-use Rattle.std.proofs.Math.Nat.{div-div-eq-div-mul, div-one, pow-suc}
+use Rattle.std.proofs.Math.Nat.{div-one}
 use Rattle.std.proofs.lemmas.Bool.{and_from, and_parts, both_ways, cond_both, false_from_ne_true, lt-ltb, ltb-true}
 use Rattle.std.proofs.lemmas.List.Elements.{All-from_get_or}
 use Rattle.std.proofs.lemmas.List.Folds.{list_all-append, list_any_none}
@@ -23,6 +23,7 @@ use Rattle.trace_lines.specs.Words.{is_list, targets_of}
 use Rattle.world_laws.proofs.Replicating.Effects.{Each}
 use Rattle.trace_laws.proofs.Bytes.{Lacks, cut_joined, lacks}
 use Rattle.trace_laws.proofs.Words.{is_plain, is_visible, name_bytes, name_plain}
+use Rattle.geo_base.proofs.Sums.{half_power}
 
 -- ---- names told apart
 other_way : (a b : Word) → bytes_eq a b ≡ false → bytes_eq b a ≡ false
@@ -50,16 +51,11 @@ no_mask : (xs : List Word) → mask_of xs [] ≡ 0
 no_mask [] = refl
 no_mask (x ∷ xs) = rw (no_mask xs) refl
 
-half : (k bits : ℕ) → bits / 2 ^ (k + 1) ≡ (bits / 2 ^ k) / 2
-half k bits =
-    let more : k + 1 ≡ suc k = omega arith in
-    ap (λ (j : ℕ). bits / 2 ^ j) more ∙ ap (λ (j : ℕ). bits / j) (pow-suc 2 k) ∙ sym (div-div-eq-div-mul bits (2 ^ k) 2)
-
 -- the names of a list's targets, from cluster x on
 same_names : (names : List Word) (x bits : ℕ) → target_names x (targets.Only bits) names ≡ names_in names (bits / 2 ^ x)
 same_names [] x bits = refl
 same_names (n ∷ ns) x bits =
-    ap (λ (ws : List Word). if (bits / 2 ^ x) % 2 == 1 then n ∷ ws else ws) (same_names ns (x + 1) bits ∙ ap (names_in ns) (half x bits))
+    ap (λ (ws : List Word). if (bits / 2 ^ x) % 2 == 1 then n ∷ ws else ws) (same_names ns (x + 1) bits ∙ ap (names_in ns) (half_power x bits))
 
 -- ---- names with commas
 all_names : (ws : List Word) → list_all is_name ws ≡ true → Each (Lacks 44) ws

@@ -5,14 +5,14 @@ use Rattle.std.specs.Str.{bytes_eq}
 use Rattle.std.proofs.lemmas.Bool.{eq-eqb, false≢true}
 use Rattle.std.proofs.lemmas.Option.{none-some, same_Some}
 use Rattle.std.proofs.lemmas.Slice.Eq.{bytes_eq-Decides}
-use Rattle.world_laws.proofs.Types.{Builder, CachedSnapshot, ClusterPosition, Content, Cut, Entry, Marker, Position, Targets}
+use Rattle.world_laws.proofs.Types.{SnapshotBuilder, CachedSnapshot, ClusterPosition, Content, Cut, Entry, Marker, Position, Targets}
 use Rattle.world_laws.proofs.Types.content
 use Rattle.world_laws.proofs.Types.marker
 use Rattle.world_laws.proofs.Types.progress
 use Rattle.world_laws.proofs.Types.targets
 use Rattle.world_laws.proofs.Types.write
 use Rattle.geo_base.specs.Broker.{Broker, cluster_name, no_broker, sub_named}
-use Rattle.geo_base.specs.Builder.{named}
+use Rattle.geo_base.specs.SnapshotBuilder.{named}
 use Rattle.geo_base.specs.Cache.{last_passed}
 use Rattle.geo_base.specs.Cursor.{has, mark}
 use Rattle.geo_base.specs.Entry.{is_data}
@@ -93,7 +93,7 @@ found_self vs u apart s = by vs apart s.place s.is
         let none = apart_none v us u a.0 (record { place = k; is = at }) in
         ap (λ (b : Bool). if b then Some v else sub_named us u.name) none ∙ by us a.1 k at
 
--- behind what is done to the subscriptions of a name, which keeps names, it finds what was done to the one that it found
+-- after what is done to the subscriptions of a name, which keeps names, it finds what was done to the one that it found
 pub found_after : (n : List ℕ) (f : Subscription → Subscription) → ((v : Subscription) → (f v).name ≡ v.name) → (vs : List Subscription) (v : Subscription) → sub_named vs n ≡ Some v
     → sub_named (map (at_name n f) vs) n ≡ Some (f v)
 found_after n f keeps [] v h = absurd (none-some v h)
@@ -177,7 +177,7 @@ same_set [] k = refl
 same_set (b ∷ bs) zero = refl
 same_set (b ∷ bs) (suc k) = ap (λ (cs : List Broker). b ∷ cs) (same_set bs k)
 
-pub completes_holds : (s : Setup) (w : World) (n t x : ℕ) (c : Cause) (y i : ℕ) (e : Entry) (id : List ℕ) (answer : ClusterPosition) (u u' : Builder) → Here s w t x
+pub completes_holds : (s : Setup) (w : World) (n t x : ℕ) (c : Cause) (y i : ℕ) (e : Entry) (id : List ℕ) (answer : ClusterPosition) (u u' : SnapshotBuilder) → Here s w t x
     → ReadsNext (site s t x) (topic_at s w t x) y i e → IsResponse (site s t x) (topic_at s w t x) y e id answer u → Hears (topic_at s w t x) y i id answer u progress.Done u'
     → accepts (topic_at s w t x).entries (snapshot_marker (site s t x) (topic_at s w t x) u').ident ≡ true
     → WriteHolds s w.brokers n t x c (topic_at s w t x) (write.Append (snapshot_marker (site s t x) (topic_at s w t x) u'))
@@ -191,7 +191,7 @@ completes_holds s w n t x c y i e id answer u u' h next response heard new =
     let fine = snapshot_accepted s w' t x m u'.id u'.cut h.there (λ a v here. (h.knows.answers a v here).numbered) (record { places = made.places; empty = made.empty }) cut in
     marker_holds s w n t x c (marker.Snapshot u'.id u'.cut.local (named u'.cut)) (targets.Only (2 ^ x)) (cluster_name (site s t x) x ∷ []) h (subst M (sym (same_set w.brokers (mirror_number s t x))) fine) refl new
 
--- ---- the update behind a cursor's write: b is the broker behind it, whose entries and ledgers are those before it
+-- ---- the update after a cursor's write: b is the broker after it, whose entries and ledgers are those before it
 pub update_holds : (s : Setup) (w : World) (n t x : ℕ) (c : Cause) (b : Broker) (v : Subscription) (cs : List CachedSnapshot) (cut : Cut) → Here s w t x
     → b.entries ≡ (topic_at s w t x).entries → b.ledgers ≡ (topic_at s w t x).ledgers → sub_named b.subs v.name ≡ Some v
     → AllIn (StemsFrom (length s.clusters) x (topic_at s w t x).entries (topic_at s w t x).ledgers) cs → last_passed (mark v.cursor) cs ≡ Some cut

@@ -1,4 +1,4 @@
--- The trace of every run of a script within the limits is accepted, and an audit sees behind it what the run leaves.
+-- The trace of every run of a script within the limits is accepted, and an audit sees after it what the run leaves.
 use Rattle.std.proofs.Common.{◌≡◌, ℕ, zero, suc, ◌+◌, ◌*◌, ◌<◌, ◌≤◌, Bool, true, false, List, [], ◌∷◌, ◌++◌, length, map, refl, sym, ap, subst, ◌∙◌, ◌==◌, arith, not}
 use Rattle.std.specs.Prelude.{◌||◌, Option, Some, None, if◌then◌else◌, is_some, nat_lt, replicate, slice_index_or, slice_set, take, Result, Ok, Err}
 use Rattle.std.specs.List.{list_all}
@@ -16,7 +16,7 @@ use Rattle.geo_base.specs.Broker.{Broker, changed, new_broker, sub_named, writte
 use Rattle.geo_base.specs.Cache.{cached}
 use Rattle.geo_base.specs.Client.{Acted}
 use Rattle.geo_base.specs.Cursor.{below}
-use Rattle.geo_base.specs.Dispatcher.{given, passed_index}
+use Rattle.geo_base.specs.Dispatcher.{given, skipped_index}
 use Rattle.geo_base.specs.Happening.{broker_does, broker_halts, client_does, does_planned, happens, halts_planned, stops}
 use Rattle.geo_base.specs.Laws.{IsShort}
 use Rattle.geo_base.specs.Moments.{partly_written}
@@ -55,7 +55,7 @@ use Rattle.trace_laws.proofs.Strictly.{plainly}
 use Rattle.trace_laws.proofs.Stems.{Stemming, stemming_kept}
 use Rattle.trace_laws.proofs.Writes.{PlanHolds, opened_seen}
 
--- ---- names are apart and cursors ascend (the second is a fact of `world_kept`, too)
+-- ---- names are apart and cursors ascend (the second is a fact of `kept_laws`, too)
 
 abbrev Ascends : Subscription → Type 0
 Ascends v = Rising 0 v.cursor
@@ -79,7 +79,7 @@ one_written per b (write.Delete n) h = each_filter Ascends (λ (s : Subscription
 one_written per b (write.Acks n is) h = named_ascends n (with_acks is) (λ v k. rising_with_indexes v.cursor is k) b.subs h
 one_written per b (write.Seek n i) h = named_ascends n (sought i) (λ v k. rising_below i) b.subs h
 one_written per b (write.Append e) h = h
-one_written per b (write.SenderAck y i) h = h
+one_written per b (write.ReplicatorAck y i) h = h
 one_written per b (write.SessionNumber y i) h = h
 one_written per b write.Ledger h = h
 
@@ -91,7 +91,7 @@ one_changed : (b : Broker) (c : Change) → Each Ascends b.subs → Each Ascends
 one_changed b (change.Attach n k) h = named_ascends n (attached k) (λ v p. p) b.subs h
 one_changed b (change.Detach k) h = each_to Ascends Ascends (detached k) (λ v p. p) b.subs h
 one_changed b (change.Permit n k permits) h = named_ascends n (permitted k permits) (λ v p. p) b.subs h
-one_changed b (change.Passed n i) h = named_ascends n (passed_index i) (λ v p. p) b.subs h
+one_changed b (change.Skipped n i) h = named_ascends n (skipped_index i) (λ v p. p) b.subs h
 one_changed b (change.Given n i at) h = named_ascends n (given i at) (λ v p. p) b.subs h
 one_changed b (change.Cache n k) h = named_ascends n (λ s. record s { cache = cached s.cache k }) (λ v p. p) b.subs h
 one_changed b (change.Acked n) h = named_ascends n after_acks (λ v p. p) b.subs h
@@ -280,7 +280,7 @@ stop_told : (s : Setup) (w : World) → Told s w (Begins (w.events + 1) ∷ []) 
 unfolding stops
 stop_told s w = begins s w [] ∙ ap accept (ap (λ ms. record { topics = ms; events = w.events + 1 }) (sym (all_stopped s.per_ledger w.brokers)))
 
--- ---- lines behind lines
+-- ---- lines after lines
 
 abbrev is_ok : Result Mirrors Refusal → Bool
 is_ok (Ok a) = true

@@ -13,7 +13,7 @@ use Rattle.geo_base.specs.Cursor.{below, mark}
 use Rattle.geo_base.specs.Entry.{is_data, meant_for, same_ident}
 use Rattle.geo_base.specs.Settled.{IsSettled, SettledSoFar}
 use Rattle.geo_base.specs.Setup.{Setup}
-use Rattle.geo_base.specs.Updating.{passes}
+use Rattle.geo_base.specs.Updating.{is_updated}
 use Rattle.world_laws.proofs.Telling.Passing.{below_mark}
 use Rattle.world_laws.proofs.Walks.Walk.{left, right}
 use Rattle.geo_base.specs.TraceItems.{names_same}

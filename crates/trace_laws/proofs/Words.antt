@@ -10,13 +10,13 @@ use Rattle.std.proofs.lemmas.List.Folds.{list_all-append, list_any_at}
 use Rattle.std.proofs.lemmas.List.Splits.{slice_split_at, slice_split_none}
 use Rattle.std.proofs.lemmas.Slice.Eq.{bytes_eq-Decides}
 use Rattle.geo_base.specs.declared.marker.ClusterPosition.{ClusterPosition}
-use Rattle.geo_base.specs.declared.marker.Place.{Place}
-use Rattle.geo_base.specs.declared.marker.Place.TheVariants as place
+use Rattle.geo_base.specs.declared.marker.ClusterRef.{ClusterRef}
+use Rattle.geo_base.specs.declared.marker.ClusterRef.TheVariants as cluster_ref
 use Rattle.geo_base.specs.declared.position.Position.{Position}
-use Rattle.geo_base.specs.Builder.{second_id, snapshot_id}
+use Rattle.geo_base.specs.SnapshotBuilder.{second_id, snapshot_id}
 use Rattle.geo_base.specs.Name.{is_name, name_byte}
 use Rattle.geo_base.specs.Report.{printed, shown_cluster_position, shown_key, shown_position}
-use Rattle.geo_base.specs.Sizes.{place_name}
+use Rattle.geo_base.specs.Sizes.{cluster_ref_name}
 use Rattle.script_rows.specs.NameBytes.{is_among, name_at}
 use Rattle.script_rows.specs.Numbers.{is_digit}
 use Rattle.script_rows.specs.NameWords.{Word, cut_by}
@@ -152,35 +152,35 @@ key_plain None is = refl
 key_plain (Some k) is = rw (printed_plain k (name_plain k is)) (name_plain k is)
 
 -- ---- places
-place_word : (names : List Word) (x : ℕ) → AreNames names → x < length names → printed (place_name names (place.Known x)) ≡ name_at names x
+place_word : (names : List Word) (x : ℕ) → AreNames names → x < length names → printed (cluster_ref_name names (cluster_ref.Known x)) ≡ name_at names x
 place_word names x are within = printed_plain (name_at names x) (name_plain (name_at names x) (is_name_at names x are within))
 
-named_back : (names : List Word) (x : ℕ) → AreNames names → x < length names → place_of names (name_at names x) ≡ Some (place.Known x)
+named_back : (names : List Word) (x : ℕ) → AreNames names → x < length names → place_of names (name_at names x) ≡ Some (cluster_ref.Known x)
 named_back names x are within =
     rw (token_text (name_at names x) (name_token (name_at names x) (is_name_at names x are within)), among_at names x within, number_at names x are within) refl
 
-pub place_back : (names : List Word) (p : Place) → AreNames names → IsCluster names p → place_of names (printed (place_name names p)) ≡ Some p
-place_back names (place.Known x) are within = ap (place_of names) (place_word names x are within) ∙ named_back names x are within
-place_back names (place.Stranger n) are within = absurd within
+pub place_back : (names : List Word) (p : ClusterRef) → AreNames names → IsCluster names p → place_of names (printed (cluster_ref_name names p)) ≡ Some p
+place_back names (cluster_ref.Known x) are within = ap (place_of names) (place_word names x are within) ∙ named_back names x are within
+place_back names (cluster_ref.Stranger n) are within = absurd within
 
-pub place_plain : (names : List Word) (p : Place) → AreNames names → IsCluster names p → is_plain (printed (place_name names p)) ≡ true
-place_plain names (place.Known x) are within =
+pub place_plain : (names : List Word) (p : ClusterRef) → AreNames names → IsCluster names p → is_plain (printed (cluster_ref_name names p)) ≡ true
+place_plain names (cluster_ref.Known x) are within =
     subst (λ (w : Word). is_plain w ≡ true) (sym (place_word names x are within)) (name_plain (name_at names x) (is_name_at names x are within))
-place_plain names (place.Stranger n) are within = absurd within
+place_plain names (cluster_ref.Stranger n) are within = absurd within
 
 -- ---- the position of a cluster
 abbrev pub IsTold : List Word → ClusterPosition → Type 0
 IsTold names r = IsCluster names r.cluster × IsSmall r.position
 
-place_bytes : (names : List Word) (p : Place) → AreNames names → IsCluster names p → list_all name_byte (printed (place_name names p)) ≡ true
-place_bytes names (place.Known x) are within =
+place_bytes : (names : List Word) (p : ClusterRef) → AreNames names → IsCluster names p → list_all name_byte (printed (cluster_ref_name names p)) ≡ true
+place_bytes names (cluster_ref.Known x) are within =
     subst (λ (w : Word). list_all name_byte w ≡ true) (sym (place_word names x are within)) (name_bytes (name_at names x) (is_name_at names x are within))
-place_bytes names (place.Stranger n) are within = absurd within
+place_bytes names (cluster_ref.Stranger n) are within = absurd within
 
 pair_split : (names : List Word) (r : ClusterPosition) → AreNames names → IsTold names r
-    → cut_by 61 (shown_cluster_position names r) ≡ printed (place_name names r.cluster) ∷ shown_position r.position ∷ []
+    → cut_by 61 (shown_cluster_position names r) ≡ printed (cluster_ref_name names r.cluster) ∷ shown_position r.position ∷ []
 pair_split names r are told =
-    let c = printed (place_name names r.cluster) in
+    let c = printed (cluster_ref_name names r.cluster) in
     slice_split_at (λ b. b == 61) c 61 (shown_position r.position) (lacks name_byte 61 refl c (place_bytes names r.cluster are told.0)) refl
     ∙ ap (λ (ws : List Word). c ∷ ws) (slice_split_none (λ b. b == 61) (shown_position r.position) (lacks is_position_byte 61 refl (shown_position r.position) (position_bytes r.position told.1)))
 
@@ -196,12 +196,12 @@ pub no_by : (names : List Word) (r : ClusterPosition) → AreNames names → IsT
 no_by names r are told =
     let w = shown_cluster_position names r in
     false_from_ne_true (bytes_eq w (codes "by")) (λ same.
-    one_is_not_two (codes "by") (printed (place_name names r.cluster)) (shown_position r.position)
+    one_is_not_two (codes "by") (printed (cluster_ref_name names r.cluster)) (shown_position r.position)
     (ap (λ (v : Word). cut_by 61 v) (sym ((bytes_eq-Decides w (codes "by")).0 same)) ∙ pair_split names r are told))
 
 pub cluster_position_plain : (names : List Word) (r : ClusterPosition) → AreNames names → IsTold names r → is_plain (shown_cluster_position names r) ≡ true
 cluster_position_plain names r are told =
-    let c = printed (place_name names r.cluster) in
+    let c = printed (cluster_ref_name names r.cluster) in
     rw (list_all-append is_visible c (61 ∷ shown_position r.position))
     (and_from (is_plain c) (is_plain (61 ∷ shown_position r.position)) (place_plain names r.cluster are told.0) (position_plain r.position told.1))
 

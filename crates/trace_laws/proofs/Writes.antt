@@ -1,4 +1,4 @@
--- One write of the machine, told by its line: an audit that accepts the line sees behind it what the write leaves.
+-- One write of the machine, told by its line: an audit that accepts the line sees after it what the write leaves.
 use Rattle.std.proofs.Common.{◌≡◌, ℕ, zero, suc, ◌+◌, ◌-◌, ◌<◌, ◌≤◌, Bool, true, false, List, [], ◌∷◌, ◌++◌, length, map, filter, refl, sym, ap, ◌∙◌, arith, not}
 use Rattle.std.specs.Prelude.{Option, Some, None, if◌then◌else◌, find, is_none, is_some, nat_le, nat_lt, slice_index_or, slice_set, Ok}
 use Rattle.std.specs.Str.{bytes_eq}
@@ -241,7 +241,7 @@ one_write s bs n t x c b (write.Alter m kind replicated) rest lt h =
     (ap (λ (vs : List MirrorSub). mirror_of b.entries (positions_in b.ledgers 0 (length b.entries)) vs)
     (sym (seen_same (at_name m (λ v. record v { kind = kind; replicated = replicated }))
     (λ v. on_if (λ (u : Subscription). sub_seen u ≡ sub_seen v) (bytes_eq v.name m) (record v { kind = kind; replicated = replicated }) v refl refl) b.subs)))
-one_write s bs n t x c b (write.SenderAck y i) rest lt h = no_act s bs n t x b (written s.per_ledger b (write.SenderAck y i)) (told_at t x rest) refl
+one_write s bs n t x c b (write.ReplicatorAck y i) rest lt h = no_act s bs n t x b (written s.per_ledger b (write.ReplicatorAck y i)) (told_at t x rest) refl
 one_write s bs n t x c b (write.SessionNumber y i) rest lt h = no_act s bs n t x b (written s.per_ledger b (write.SessionNumber y i)) (told_at t x rest) refl
 one_write s bs n t x c b write.Ledger rest lt h =
     no_act s bs n t x b (written s.per_ledger b write.Ledger) (told_at t x rest)

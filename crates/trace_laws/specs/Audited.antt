@@ -1,4 +1,4 @@
--- What an audit promises: behind each line of a trace that it accepts, what the lines so far make of topics and subscriptions is safe,
+-- What an audit promises: after each line of a trace that it accepts, what the lines so far make of topics and subscriptions is safe,
 -- as `Safe` has it of the machine's world.
 use Rattle.std.specs.Prelude.{◌≡◌, ℕ, ◌<◌, true, List, [], ◌∷◌, ◌++◌, length, Some, slice_get, Ok}
 use Rattle.std.specs.List.{AllByRecursion}

@@ -25,7 +25,7 @@ abbrev pub IsGapless : Setup → Mirrors → Type 0
 IsGapless s a = (t x z : ℕ) → x < length s.clusters → z < length s.clusters → z ≢ x
     → AreFirstOf (of_origin z (mirror_at s a t x).entries) (outbound z x (mirror_at s a t z).entries)
 
--- behind each line of a trace that is accepted wholly
+-- after each line of a trace that is accepted wholly
 abbrev pub LawGapless : Type 0
 LawGapless = (s : Setup) (before after : List Item) (a : Mirrors) → AllByRecursion (IsItemOf s) (before ++ after) → audited_by strictness.Whole s (before ++ after) ≡ Ok a
     → IsGapless s (all_told s (opening_mirrors s) before)

@@ -15,7 +15,7 @@ use Rattle.trace_lines.specs.Lines.{item_read}
 use Rattle.audit.specs.AuditOf.{audit_by, audit_of, names_of}
 use Rattle.audit.specs.declared.strictness.Strictness.TheVariants as strictness
 
--- Each line says the item that it was written from. The bytes are cut into the lines again, with nothing behind the last one, and the
+-- Each line says the item that it was written from. The bytes are cut into the lines again, with nothing after the last one, and the
 -- audit accepts them, also where it judges gaps: it counts the events of the run
 pub record IsReadBack (s : Setup) (es : List Step) (items : List Item) : Type 0 where
   pub lines : AllByRecursion (λ (i : Item). item_read (names_of s) (item_line s i) ≡ Some i) items

@@ -1,4 +1,4 @@
--- Ranges that ascend, with a gap between each two, and one more behind them.
+-- Ranges that ascend, with a gap between each two, and one more after them.
 use Rattle.std.proofs.Common.{◌≡◌, ℕ, zero, suc, ◌+◌, ◌<◌, ◌≤◌, true, List, [], ◌∷◌, ◌++◌, length, get_or, arith, refl}
 use Rattle.std.specs.Prelude.{Some, nat_le}
 use Rattle.std.proofs.lemmas.Bool.{leb-true}
@@ -20,7 +20,7 @@ ends_before (r ∷ q ∷ rs) first h le zero d n =
     let gap = h.gaps 0 1 d (omega arith) (omega arith) in let own = h.each 1 d (omega arith) in omega (arith, tail, gap, own)
 ends_before (r ∷ q ∷ rs) first h le (suc k) d n = ends_before (q ∷ rs) first (apart_tail r (q ∷ rs) h) le k d (omega (arith, n))
 
--- what is true of each, and of one behind them
+-- what is true of each, and of one after them
 each_push : (P : IndexRange → Type 0) (rs : List IndexRange) (r : IndexRange) → ((k : ℕ) (d : IndexRange) → k < length rs → P (get_or rs k d)) → P r
     → (k : ℕ) (d : IndexRange) → k < length (rs ++ r ∷ []) → P (get_or (rs ++ r ∷ []) k d)
 each_push P [] r h own zero d n = own

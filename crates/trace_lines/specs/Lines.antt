@@ -14,7 +14,7 @@ use Rattle.trace_lines.specs.Entries.{entry_with, what_of}
 use Rattle.trace_lines.specs.Ranges.{ranges_of}
 use Rattle.trace_lines.specs.Words.{declared, number, position_of, start_of, sub_of, targets_of, text_of}
 
--- an entry that is named, with the list and what is behind it; x is the cluster where it stands
+-- an entry that is named, with the list and what is after it; x is the cluster where it stands
 abbrev pub append_with : List Word → ℕ → Position → Ident → Word → List Word → Option Act
 append_with clusters x position ident l ws = do
   to ← targets_of clusters l

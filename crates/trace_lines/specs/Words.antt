@@ -5,8 +5,8 @@ use Rattle.std.specs.Str.{bytes_eq}
 use Rattle.geo_base.specs.declared.entry.Targets.{Targets}
 use Rattle.geo_base.specs.declared.entry.Targets.TheVariants as targets
 use Rattle.geo_base.specs.declared.marker.ClusterPosition.{ClusterPosition}
-use Rattle.geo_base.specs.declared.marker.Place.{Place}
-use Rattle.geo_base.specs.declared.marker.Place.TheVariants as place
+use Rattle.geo_base.specs.declared.marker.ClusterRef.{ClusterRef}
+use Rattle.geo_base.specs.declared.marker.ClusterRef.TheVariants as cluster_ref
 use Rattle.geo_base.specs.declared.position.Position.{Position}
 use Rattle.geo_base.specs.Name.{is_name}
 use Rattle.script_rows.specs.NameBytes.{is_among, mask_of, names_in, number_in}
@@ -49,11 +49,11 @@ key_of w = if bytes_eq w (codes "-") then Some None else do
   Some (Some k)
 
 -- the number of a cluster, or a name that no cluster has
-abbrev pub named_place : List Word → Word → Place
-named_place clusters w = if is_among clusters w then place.Known (number_in clusters w) else place.Stranger w
+abbrev pub named_cluster_ref : List Word → Word → ClusterRef
+named_cluster_ref clusters w = if is_among clusters w then cluster_ref.Known (number_in clusters w) else cluster_ref.Stranger w
 
-abbrev pub place_of : List Word → Word → Option Place
-place_of clusters w = given (is_text w) (named_place clusters w)
+abbrev pub place_of : List Word → Word → Option ClusterRef
+place_of clusters w = given (is_text w) (named_cluster_ref clusters w)
 
 -- CLUSTER=L:E
 abbrev pub pair_in : List Word → List Word → Option ClusterPosition

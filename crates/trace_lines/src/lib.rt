@@ -1,6 +1,6 @@
 //! The lines of a trace, read: what a line of any bytes says, where it has a form.
 //!
-//! A trace tells a run of a script, event by event, and behind each event what it wrote durably of topics and subscriptions. A line is
+//! A trace tells a run of a script, event by event, and after each event what it wrote durably of topics and subscriptions. A line is
 //! cut into words without a copy; what a subscription, a marker or a message is called is copied.
 #![tactic(auto)]
 

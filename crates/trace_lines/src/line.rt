@@ -39,7 +39,7 @@ pub enum Line {
     },
 }
 
-/// What an entry is, and behind an update of its own cluster the position of the snapshot that it tells.
+/// What an entry is, and after an update of its own cluster the position of the snapshot that it tells.
 #[derive(Drop)]
 pub(crate) struct What {
     pub(crate) content: Content,

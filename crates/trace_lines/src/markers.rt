@@ -165,7 +165,7 @@ fn cluster_positions_of(
     Ok(Some(remote))
 }
 
-/// Positions of clusters, and behind them `by L:E`.
+/// Positions of clusters, and after them `by L:E`.
 fn told_positions_of(
     alloc: Global,
     clusters: &NameTable<'_>,
@@ -187,7 +187,7 @@ fn told_positions_of(
     }
 }
 
-/// Adds positions of clusters to none; the position behind them and `by`.
+/// Adds positions of clusters to none; the position after them and `by`.
 #[tactic(auto, using(crate::proofs::SoFar::told_so_far))]
 fn add_told(
     alloc: Global,
@@ -214,7 +214,7 @@ fn add_told(
     Ok(None)
 }
 
-/// The position behind `by`.
+/// The position after `by`.
 fn by_of(words: &mut LineWords<'_>) -> Option<Position>
     ensures { result ≡ by_of words.old }
 {

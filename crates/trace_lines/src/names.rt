@@ -9,7 +9,7 @@ use crate::numbers::position_of;
 use crate::texts::{is_text, text_of};
 use geo_base::limits::CLUSTERS;
 use geo_base::{
-    ClusterName, ClusterPosition, Memory, Name, Place, Sequence, Targets, Text, TopicName,
+    ClusterName, ClusterPosition, ClusterRef, Memory, Name, Sequence, Targets, Text, TopicName,
 };
 use script_rows::{NameList, NameTable, cut_at, is_word, list_word, mask_of};
 use std::alloc::Global;
@@ -123,18 +123,18 @@ pub(crate) fn place_of(
     alloc: Global,
     clusters: &NameTable<'_>,
     word: &[u8],
-) -> Result<Option<Place>, Memory>
+) -> Result<Option<ClusterRef>, Memory>
     ensures { IfOk result (λ place. place ≡ place_of clusters.now word.now) }
 {
     if !is_text(word) {
         return Ok(None);
     }
     if let Some(cluster) = clusters.find(word) {
-        return Ok(Some(Place::Known(cluster)));
+        return Ok(Some(ClusterRef::Known(cluster)));
     }
     match text_of(alloc, word)? {
         None => Ok(None),
-        Some(name) => Ok(Some(Place::Stranger(name))),
+        Some(name) => Ok(Some(ClusterRef::Stranger(name))),
     }
 }
 

@@ -6,7 +6,7 @@ use Rattle.std.specs.Str.{bytes_eq}
 use Rattle.std.proofs.lemmas.Bool.{false≢true}
 use Rattle.std.proofs.lemmas.Bool.Decides.{nat_tests}
 use Rattle.std.proofs.lemmas.Slice.Eq.{bytes_eq-Decides}
-use Rattle.world_laws.proofs.Types.{Content, Entry, Event, Fate, Frame, Packet, Place, Position, Session, Write}
+use Rattle.world_laws.proofs.Types.{Content, Entry, Event, Fate, Frame, Packet, ClusterRef, Position, Session, Write}
 use Rattle.world_laws.proofs.Types.content
 use Rattle.world_laws.proofs.Types.event
 use Rattle.world_laws.proofs.Types.frame
@@ -26,7 +26,7 @@ use Rattle.geo_base.specs.Subscription.{Subscription, new_subscription}
 use Rattle.geo_base.specs.Topic.{accepts, next_position}
 use Rattle.geo_base.specs.TraceItems.{Act, Acks, Appends}
 use Rattle.geo_base.specs.Traced.{act_of, acts_of, cursor_of, gained, snapshot_told}
-use Rattle.geo_base.specs.Updating.{passed_over}
+use Rattle.geo_base.specs.Updating.{updated_indexes}
 use Rattle.geo_base.specs.World.{site}
 use Rattle.world_laws.proofs.OnceInOrder.Appends.{after_writes, done_entries}
 use Rattle.world_laws.proofs.Replicating.Effects.{Each, each_both}
@@ -36,10 +36,10 @@ use Rattle.world_laws.proofs.Walks.ReadWalk.{read_shape}
 use Rattle.world_laws.proofs.Walks.ServeWalk.{frame_served}
 use Rattle.world_laws.proofs.Walks.Shapes.{Answered, Fated, Offers, Reads, Seeks, Served, Snaps, Taken, Updates}
 use Rattle.world_laws.proofs.Walks.Walk.{on_if}
-use Rattle.world_kept.specs.Events.{cluster_of, topic_of}
+use Rattle.kept_laws.specs.Events.{cluster_of, topic_of}
 use Rattle.trace_runs.specs.Acts.{acts_before}
 
--- ---- writes behind others
+-- ---- writes after others
 
 -- the lines of the first so many of these writes, told one after another from b on, are those that are told at a
 abbrev pub Apart : Site → Cause → (b a : Broker) → List Write → Type 0
@@ -53,7 +53,7 @@ none_apart : (h : Site) (c : Cause) (b a : Broker) → Apart h c b a []
 none_apart h c b a zero = refl
 none_apart h c b a (suc k) = refl
 
--- one write, and those behind it
+-- one write, and those after it
 one_apart : (h : Site) (c : Cause) (b a : Broker) (w : Write) (ws : List Write) → act_of h c b w ≡ act_of h c a w → Apart h c (written h.per_ledger b w) a ws → Apart h c b a (w ∷ ws)
 one_apart h c b a w ws one rest zero = refl
 one_apart h c b a w ws one rest (suc k) =
@@ -82,7 +82,7 @@ append_apart : (h : Site) (c : Cause) (b a : Broker) (e : Entry) (ws : List Writ
 append_apart h c b a e ws entries ledgers all =
     one_apart h c b a (write.Append e) ws (append_same h c b a e entries ledgers) (still_apart h c (written h.per_ledger b (write.Append e)) a ws all)
 
--- what follows a write of a cursor, and then the sender's
+-- what follows a write of a cursor, and then the replicator's
 updates_apart : (h : Site) (c : Cause) (b a : Broker) (v : Subscription) (ws vs : List Write) → b.entries ≡ a.entries → b.ledgers ≡ a.ledgers → Updates h a v ws → Each (Anywhere h c) vs
     → Apart h c b a (ws ++ vs)
 updates_apart h c b a v ws vs entries ledgers Updates.NoUpdate all = still_apart h c b a vs all
@@ -118,7 +118,7 @@ snaps_apart h c b q (Snaps.Asks any none) = append_apart h c b b _ [] refl refl 
 offers_apart : (h : Site) (c : Cause) (b : Broker) (n : List ℕ) (q : Plan) → Offers h b n q → Apart h c b b q.writes
 offers_apart h c b n q Offers.NothingToOffer = none_apart h c b b
 offers_apart h c b n q (Offers.Gives v i at e due is picked) = none_apart h c b b
-offers_apart h c b n q (Offers.PassesBy v i e ws due silent after) = one_apart h c b b (write.Acks v.name (i ∷ [])) ws refl (follows h c _ b _ ws refl refl after)
+offers_apart h c b n q (Offers.SkipsMarker v i e ws due silent after) = one_apart h c b b (write.Acks v.name (i ∷ [])) ws refl (follows h c _ b _ ws refl refl after)
 offers_apart h c b n q (Offers.Caches v i j e k ws due is after) = one_apart h c b b (write.Acks v.name (i ∷ [])) ws refl (follows h c _ b _ ws refl refl after)
 
 seeks_apart : (h : Site) (c : Cause) (b : Broker) (n : List ℕ) (to : Option Position) (q : Plan) → Seeks h b n to q → Apart h c b b q.writes
@@ -168,9 +168,9 @@ reads_apart h c b y q (Reads.AsksAgain i e id answer u u' next is heard) = appen
 reads_apart h c b y q (Reads.Completes i e id answer u u' next is heard) = append_apart h c b b _ _ refl refl ((λ b' a'. refl), tt)
 reads_apart h c b y q (Reads.CreatesAt i j e n remote next is none) =
     one_apart h c b b (write.Create n sub_kind.Exclusive true false) _ refl
-    (one_apart h c (written h.per_ledger b (write.Create n sub_kind.Exclusive true false)) b (write.Acks n (passed_over y 0 (j + 1) b.entries)) _ (created_acks h c b n (passed_over y 0 (j + 1) b.entries) none)
+    (one_apart h c (written h.per_ledger b (write.Create n sub_kind.Exclusive true false)) b (write.Acks n (updated_indexes y 0 (j + 1) b.entries)) _ (created_acks h c b n (updated_indexes y 0 (j + 1) b.entries) none)
     (still_apart h c _ b _ ((λ b' a'. refl), tt)))
-reads_apart h c b y q (Reads.PassesOver i j e n remote v ws next is found after) =
+reads_apart h c b y q (Reads.ActsOnUpdate i j e n remote v ws next is found after) =
     one_apart h c b b (write.Acks n _) _ refl (updates_apart h c _ b _ ws _ refl refl after ((λ b' a'. refl), tt))
 
 -- ---- a packet that is acted on twice: it stores its entry once
@@ -184,7 +184,7 @@ once_refused (f ∷ es) e = grind (arith, once_refused es e)
 -- what one act stores, if it stores
 data Stored (x : ℕ) (p : Packet) (b : Broker) : List Write → Type 0 where
   Nothing : Stored x p b []
-  One : (id seq : ℕ) (source : Option Place) (e : Entry) → p.frame ≡ frame.Send id seq source e → accepts b.entries (with_origin x e).ident ≡ true → Stored x p b (write.Append (with_origin x e) ∷ [])
+  One : (id seq : ℕ) (source : Option ClusterRef) (e : Entry) → p.frame ≡ frame.Send id seq source e → accepts b.entries (with_origin x e).ident ≡ true → Stored x p b (write.Append (with_origin x e) ∷ [])
 
 stores : (h : Site) (b : Broker) (x : ℕ) (p : Packet) (q : Plan) → Taken h b x p q → Stored x p b q.writes
 stores h b x p q (Taken.Stores id seq source e is at may new) = One id seq source e is new
@@ -198,7 +198,7 @@ entry_of : Frame → Entry → Entry
 entry_of (frame.Send id seq source e) d = e
 entry_of f d = d
 
-same_entry : (f : Frame) (i j m n : ℕ) (s t : Option Place) (e d : Entry) → f ≡ frame.Send i m s e → f ≡ frame.Send j n t d → d ≡ e
+same_entry : (f : Frame) (i j m n : ℕ) (s t : Option ClusterRef) (e d : Entry) → f ≡ frame.Send i m s e → f ≡ frame.Send j n t d → d ≡ e
 unfolding entry_of
 same_entry f i j m n s t e d one two = ap (λ (g : Frame). entry_of g e) (sym two ∙ one)
 
@@ -228,7 +228,7 @@ taken_apart h c b x p q (Fated.Twice r r' k k') = twice_apart h c b (done h.per_
     grows : (r : Plan) (e : Entry) → r.writes ≡ write.Append e ∷ [] → (done h.per_ledger b r).entries ≡ b.entries ++ e ∷ []
     grows r e is = done_entries h.per_ledger b r ∙ ap (λ (ws : List Write). after_writes b.entries ws) is
 
--- ---- receipts write the sender's cursor alone
+-- ---- receipts write the replicator's cursor alone
 
 answered_apart : (h : Site) (c : Cause) (b : Broker) (y : ℕ) (p : Packet) (q : Plan) → Answered b y p q → Each (Anywhere h c) q.writes
 answered_apart h c b y p q (Answered.Stale other) = tt

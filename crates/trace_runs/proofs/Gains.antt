@@ -9,7 +9,7 @@ use Rattle.geo_base.specs.Cursor.{below, has, with_index, with_indexes}
 use Rattle.geo_base.specs.Traced.{gained}
 use Rattle.cursor_acks.specs.Acks.{IsFirstOpen}
 use Rattle.cursor_acks.proofs.Sets.{Rising, has_with_indexes, rising_higher, rising_with_indexes, same_set}
-use Rattle.sub_update.proofs.Walk.{to_open, walk}
+use Rattle.replicated_subs.proofs.Walk.{to_open, walk}
 
 -- ---- lists that ascend
 
@@ -81,7 +81,7 @@ over_old p set end j old = elim (cases_lt j end) [
   | inr le ↦ walk_over (new_in p set) j end le ∙ sym (walk_over (new_in p set) (j + 1) end (omega arith))
 ]
 
--- what is left of a walk, behind what was gained so far, makes all of it
+-- what is left of a walk, after what was gained so far, makes all of it
 abbrev pub rest_gained : (ℕ → Bool) → List ℕ → List ℕ → ℕ → ℕ → List ℕ
 rest_gained p set so_far at end = with_indexes so_far (walk (new_in p set) at (end - at))
 
@@ -103,9 +103,9 @@ gain_step p set so_far next k a end total lt new is first before =
     rest = walk (new_in p set) (k + 1) (end - (k + 1))
 
     by : (b : Bool) → p k ≡ b → with_indexes next rest ≡ with_indexes so_far (walk (new_in p set) k (end - k))
-    by true passes =
-        let here : (p k && not (has set k)) ≡ true = grind (arith, passes, new) in
-        ap (λ (xs : List ℕ). with_indexes xs rest) (is ∙ ap (λ (b : Bool). if b then with_index so_far k else so_far) passes)
+    by true is_updated =
+        let here : (p k && not (has set k)) ≡ true = grind (arith, is_updated, new) in
+        ap (λ (xs : List ℕ). with_indexes xs rest) (is ∙ ap (λ (b : Bool). if b then with_index so_far k else so_far) is_updated)
         ∙ ap (λ (xs : List ℕ). with_indexes so_far xs) (sym (walk_next (new_in p set) k end lt ∙ ap (λ (b : Bool). if b then k ∷ rest else rest) here))
     by false fails =
         let here : (p k && not (has set k)) ≡ false = grind (arith, fails) in

@@ -1,5 +1,5 @@
 -- The keys of two markers are the same exactly where they name the same.
-use Rattle.std.proofs.Common.{◌≡◌, ℕ, zero, suc, ◌+◌, ◌≤◌, ◌==◌, Bool, true, false, List, [], ◌∷◌, ◌++◌, drop, length, refl, sym, ap, ◌∙◌}
+use Rattle.std.proofs.Common.{◌≡◌, ℕ, zero, suc, ◌+◌, ◌≤◌, ◌==◌, Bool, List, [], ◌∷◌, ◌++◌, drop, length, refl, sym, ap, ◌∙◌}
 use Rattle.std.proofs.lemmas.List.{drop_all}
 use Rattle.std.specs.Prelude.{◌&&◌}
 use Rattle.std.specs.Str.{bytes_eq}
@@ -9,14 +9,7 @@ use Rattle.geo_base.specs.Position.{same_position}
 use Rattle.geo_base.specs.TraceItems.{names_same, same_positions}
 use Rattle.geo_base.specs.Updating.{positions_for}
 use Rattle.trace_runs.specs.SnapshotTables.{key_part, positions_key, snapshot_key}
-
-and_assoc : (a b c : Bool) → (a && (b && c)) ≡ ((a && b) && c)
-and_assoc true b c = refl
-and_assoc false b c = refl
-
-and_true : (a : Bool) → (a && true) ≡ a
-and_true true = refl
-and_true false = refl
+use Rattle.geo_base.proofs.Bools.{and_assoc, and_with_true}
 
 -- a key is read from its front: each part ends by itself
 parts_same : (ps qs : List Position) (xs ys : List ℕ) → bytes_eq (key_part ps ++ xs) (key_part qs ++ ys) ≡ (same_positions ps qs && bytes_eq xs ys)
@@ -28,7 +21,7 @@ parts_same (p ∷ ps) (q ∷ qs) xs ys =
     ∙ (and_assoc (p.ledger == q.ledger) (p.entry == q.entry) (same_positions ps qs && bytes_eq xs ys) ∙ and_assoc (same_position p q) (same_positions ps qs) (bytes_eq xs ys))
 
 positions_same : (n : ℕ) (rs qs : List ClusterPosition) → bytes_eq (positions_key n rs) (positions_key n qs) ≡ names_same n rs qs
-positions_same zero rs qs = and_true (length rs == length qs)
+positions_same zero rs qs = and_with_true (length rs == length qs)
 positions_same (suc n) rs qs =
     parts_same (positions_for n rs) (positions_for n qs) (positions_key n rs) (positions_key n qs)
     ∙ ap (λ (b : Bool). same_positions (positions_for n rs) (positions_for n qs) && b) (positions_same n rs qs)

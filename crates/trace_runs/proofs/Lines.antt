@@ -16,7 +16,7 @@ spaced_append : (us vs : List (List ℕ)) → spaced (us ++ vs) ≡ spaced us ++
 spaced_append [] vs = refl
 spaced_append (u ∷ us) vs = ap (λ (t : List ℕ). 32 ∷ (u ++ t)) (spaced_append us vs) ∙ ap (λ (t : List ℕ). 32 ∷ t) (sym (append_assoc u (spaced us) (spaced vs)))
 
--- words, and some more behind them
+-- words, and some more after them
 words_append : (w : List ℕ) (us vs : List (List ℕ)) → words (w ∷ us ++ vs) ≡ words (w ∷ us) ++ spaced vs
 words_append w us vs =
     words_spaced w (us ++ vs) ∙ (ap (λ (t : List ℕ). w ++ t) (spaced_append us vs) ∙ (sym (append_assoc w (spaced us) (spaced vs)) ∙ ap (λ (t : List ℕ). t ++ spaced vs) (sym (words_spaced w us))))

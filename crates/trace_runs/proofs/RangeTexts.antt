@@ -17,7 +17,7 @@ use Rattle.trace_runs.specs.Ranges.{as_shown}
 abbrev range : ℕ → ℕ → IndexRange
 range f l = record { first = f; last = l }
 
--- indexes in a row before others that begin behind a gap
+-- indexes in a row before others that begin after a gap
 in_a_row : (f n : ℕ) (rest : List ℕ) (rs : List IndexRange) → ranges_of rest ≡ rs → joined (f + n) rs ≡ range (f + n) (f + n) ∷ rs
     → ranges_of (range_with_len f (suc n) ++ rest) ≡ range f (f + n) ∷ rs
 in_a_row f zero rest rs is gap =
@@ -69,7 +69,7 @@ all_told set rs ss old new (Ok u) told are same is =
 
 -- ---- ranges with commas
 
--- each behind a comma
+-- each after a comma
 abbrev pub behind_commas : List IndexRange → List ℕ
 behind_commas [] = []
 behind_commas (r ∷ rs) = 44 ∷ (shown_range r ++ behind_commas rs)

@@ -8,7 +8,7 @@ use Rattle.geo_base.specs.declared.entry.Entry.{Entry}
 use Rattle.geo_base.specs.declared.marker.Marker.TheVariants as marker
 use Rattle.geo_base.specs.Broker.{Broker, Site}
 use Rattle.geo_base.specs.Traced.{least_snapshot, snapshot_position, snapshot_told, snapshots_from}
-use Rattle.broker.specs.Node.{BrokerBook}
+use Rattle.broker.specs.Node.{BrokerView}
 use Rattle.trace_runs.specs.SnapshotTables.{Snapshots, TellsBeginning, table_at}
 use Rattle.trace_runs.specs.Told.{told_by}
 use Rattle.trace_runs.specs.Snapshots.{HaveSeen, Knows, number_of}
@@ -42,19 +42,19 @@ told_none h b e other = by e.content
 
 -- ---- from write to write
 
-pub seen_same : (v : BrokerBook) (ts : List Snapshots) → Knows v ts → HaveSeen v ts ts
+pub seen_same : (v : BrokerView) (ts : List Snapshots) → Knows v ts → HaveSeen v ts ts
 seen_same v ts known = record { known = known; others = λ k other. refl }
 
-pub seen_both : (v : BrokerBook) (old mid new : List Snapshots) → HaveSeen v old mid → HaveSeen v mid new → HaveSeen v old new
+pub seen_both : (v : BrokerView) (old mid new : List Snapshots) → HaveSeen v old mid → HaveSeen v mid new → HaveSeen v old new
 seen_both v old mid new one two = record { known = two.known; others = λ k other. two.others k other ∙ one.others k other }
 
 -- ---- the broker's parts as they are read
 
-pub knows_by : (v : BrokerBook) (ts : List Snapshots) (n k : ℕ) (es : List Entry) → n ≡ length v.site.clusters → k ≡ number_of v → es ≡ v.broker.entries → Knows v ts
+pub knows_by : (v : BrokerView) (ts : List Snapshots) (n k : ℕ) (es : List Entry) → n ≡ length v.site.clusters → k ≡ number_of v → es ≡ v.broker.entries → Knows v ts
     → TellsBeginning n (table_at ts k) es
 knows_by v ts n k es clusters number entries known = rw (clusters, number, entries) known
 
-pub seen_by : (v : BrokerBook) (old new : List Snapshots) (n k : ℕ) (es : List Entry) → n ≡ length v.site.clusters → k ≡ number_of v → es ≡ v.broker.entries
+pub seen_by : (v : BrokerView) (old new : List Snapshots) (n k : ℕ) (es : List Entry) → n ≡ length v.site.clusters → k ≡ number_of v → es ≡ v.broker.entries
     → TellsBeginning n (table_at new k) es → ((j : ℕ) → (j ≡ k → ⊥) → table_at new j ≡ table_at old j) → HaveSeen v old new
 seen_by v old new n k es clusters number entries known others = record {
   known =

@@ -14,8 +14,8 @@ use Rattle.broker_subs.specs.Steps.{SubWriteFits}
 use Rattle.broker_subs.specs.declared.writing.SubWrite.{SubWrite}
 use Rattle.broker_subs.specs.declared.writing.SubWrite.TheVariants as sub_write
 use Rattle.broker_subs.specs.Table.{sub_at}
-use Rattle.broker_state.specs.declared.write.BookWrite.{BookWrite}
-use Rattle.broker_state.specs.declared.write.BookWrite.TheVariants as book_write
+use Rattle.broker_state.specs.declared.write.StateWrite.{StateWrite}
+use Rattle.broker_state.specs.declared.write.StateWrite.TheVariants as state_write
 use Rattle.broker_state.specs.Fits.{AllWritesFit, WriteFits}
 use Rattle.broker_state.specs.Writes.{machine_write}
 use Rattle.trace_runs.specs.Naming.{Naming, act_line}
@@ -42,26 +42,26 @@ no_line old = sym (append-nil old)
 
 -- ---- what a write gains is stored
 
-fits_within : (es : List Entry) (k : ℕ) (b : Broker) (w : BookWrite) → WriteFits es k b w → IsWithin es w
-fits_within es k b (book_write.Append e stream) h = tt
-fits_within es k b (book_write.Create s latest) h = tt
-fits_within es k b book_write.Delete h = tt
-fits_within es k b (book_write.Sub w) h = by w (subst (λ (fs : List Entry). SubWriteFits fs (sub_at b.subs k) w) (sym h.0) h.1)
+fits_within : (es : List Entry) (k : ℕ) (b : Broker) (w : StateWrite) → WriteFits es k b w → IsWithin es w
+fits_within es k b (state_write.Append e stream) h = tt
+fits_within es k b (state_write.Create s latest) h = tt
+fits_within es k b state_write.Delete h = tt
+fits_within es k b (state_write.Sub w) h = by w (subst (λ (fs : List Entry). SubWriteFits fs (sub_at b.subs k) w) (sym h.0) h.1)
   where
     by : (w : SubWrite) → SubWriteFits es (sub_at b.subs k) w → SubIsWithin es w
     by (sub_write.Acks is) f = f
     by (sub_write.AckTo i) f = f
-    by (sub_write.Passed i from runs) f = f.0
+    by (sub_write.UpdateTo i from runs) f = f.0
     by (sub_write.Seek i) f = tt
     by (sub_write.Alter kind replicated) f = tt
-fits_within es k b (book_write.SenderAck y i) h = tt
-fits_within es k b (book_write.SessionNumber y session) h = tt
-fits_within es k b book_write.Ledger h = tt
+fits_within es k b (state_write.ReplicatorAck y i) h = tt
+fits_within es k b (state_write.SessionNumber y session) h = tt
+fits_within es k b state_write.Ledger h = tt
 
-pub within_at : (per : ℕ) (n : List ℕ) (es : List Entry) (k : ℕ) (b : Broker) (ws : List BookWrite) (j : ℕ) (w : BookWrite) → AllWritesFit per n es k b ws → slice_get ws j ≡ Some w
+pub within_at : (per : ℕ) (n : List ℕ) (es : List Entry) (k : ℕ) (b : Broker) (ws : List StateWrite) (j : ℕ) (w : StateWrite) → AllWritesFit per n es k b ws → slice_get ws j ≡ Some w
     → IsWithin es w
 within_at per n es k b [] j w fits at = cc
-within_at per n es k b (v ∷ ws) zero w fits at = subst (λ (u : BookWrite). IsWithin es u) (same at) (fits_within es k b v fits.0)
+within_at per n es k b (v ∷ ws) zero w fits at = subst (λ (u : StateWrite). IsWithin es u) (same at) (fits_within es k b v fits.0)
   where
     same : Some v ≡ Some w → v ≡ w
     same is = cc
@@ -69,7 +69,7 @@ within_at per n es k b (v ∷ ws) (suc j) w fits at = within_at per n es k (writ
 
 -- ---- write after write
 
-here_left : (f : BookWrite → Write) (k j : ℕ) (ws : List BookWrite) (w : BookWrite) → slice_get ws j ≡ Some w → j < k
+here_left : (f : StateWrite → Write) (k j : ℕ) (ws : List StateWrite) (w : StateWrite) → slice_get ws j ≡ Some w → j < k
     → drop j (take k (map f ws)) ≡ f w ∷ drop (j + 1) (take k (map f ws))
 here_left f zero j ws w at lt = absurd (omega (arith, lt))
 here_left f (suc k) j [] w at lt = cc
@@ -81,7 +81,7 @@ here_left f (suc k) (suc j) (v ∷ ws) w at lt =
     let one : suc j + 1 ≡ suc (j + 1) = omega arith in
     rw one (here_left f k j ws w at (omega (arith, lt)))
 
-none_left : (f : BookWrite → Write) (k j : ℕ) (ws : List BookWrite) → min k (length ws) ≤ j → drop j (take k (map f ws)) ≡ []
+none_left : (f : StateWrite → Write) (k j : ℕ) (ws : List StateWrite) → min k (length ws) ≤ j → drop j (take k (map f ws)) ≡ []
 none_left f zero zero ws le = refl
 none_left f zero (suc j) ws le = refl
 none_left f (suc k) zero [] le = refl
@@ -97,7 +97,7 @@ lines_append h (a ∷ ds) cs = ap (λ (t : List ℕ). act_line (naming h) a ++ t
 abbrev pub with_left : Site → Cause → Broker → List ℕ → List Write → List ℕ
 with_left h c b lines ws = lines ++ lines_of h (acts_before h c b ws)
 
-pub write_added : (h : Site) (c d : Cause) (b : Broker) (m n : List ℕ) (k j : ℕ) (ws : List BookWrite) (w : BookWrite) (old new whole : List ℕ)
+pub write_added : (h : Site) (c d : Cause) (b : Broker) (m n : List ℕ) (k j : ℕ) (ws : List StateWrite) (w : StateWrite) (old new whole : List ℕ)
     → slice_get ws j ≡ Some w → j < k → d ≡ c → m ≡ n → new ≡ old ++ lines_of h (act_of h d b (machine_write m b.entries w))
     → with_left h c b old (drop j (take k (map (machine_write n b.entries) ws))) ≡ whole → with_left h c b new (drop (j + 1) (take k (map (machine_write n b.entries) ws))) ≡ whole
 write_added h c d b m n k j ws w old new whole at lt cause name is before =
@@ -113,7 +113,7 @@ write_added h c d b m n k j ws w old new whole at lt cause name is before =
     ∙ (append_assoc old (lines_of h (act_of h c b (f w))) (lines_of h (acts_before h c b rest))
     ∙ (ap (λ (t : List ℕ). old ++ t) (sym parts) ∙ here))
 
-pub all_added : (h : Site) (c : Cause) (b : Broker) (f : BookWrite → Write) (k j : ℕ) (ws : List BookWrite) (new whole : List ℕ) → min k (length ws) ≤ j
+pub all_added : (h : Site) (c : Cause) (b : Broker) (f : StateWrite → Write) (k j : ℕ) (ws : List StateWrite) (new whole : List ℕ) → min k (length ws) ≤ j
     → with_left h c b new (drop j (take k (map f ws))) ≡ whole → new ≡ whole
 all_added h c b f k j ws new whole past before =
     sym (append-nil new) ∙ (ap (λ (vs : List Write). with_left h c b new vs) (sym (none_left f k j ws past)) ∙ before)

@@ -4,7 +4,7 @@ use Rattle.std.proofs.lemmas.Bool.{eq-eqb}
 use Rattle.std.proofs.lemmas.List.{append-nil, take_all, take_more}
 use Rattle.std.proofs.lemmas.Option.{slice_get-get_or}
 use Rattle.std.proofs.lemmas.Slice.Eq.{bytes_eq-Decides}
-use Rattle.std.specs.Prelude.{Option, Some, None, Result, Ok, Err, OnOk, ◌&&◌, if◌then◌else◌, slice_get}
+use Rattle.std.specs.Prelude.{Option, Some, None, ◌&&◌, if◌then◌else◌, slice_get}
 use Rattle.std.specs.Str.{bytes_eq}
 use Rattle.geo_base.specs.declared.entry.Content.{Content}
 use Rattle.geo_base.specs.declared.entry.Content.TheVariants as content
@@ -18,6 +18,7 @@ use Rattle.geo_base.specs.Traced.{SnapshotAt, least_of, least_snapshot, snapshot
 use Rattle.trace_runs.specs.SnapshotTables.{IsNoted, Row, Snapshots, Tells, TellsBeginning, least_at, no_snapshots, snapshot_key, table_at}
 use Rattle.trace_runs.specs.Told.{IsNoSnapshot, IsNoUpdate, IsSnapshot, IsUpdate, lesser, told_by}
 use Rattle.trace_runs.proofs.Keys.{keys_same}
+pub use Rattle.geo_base.proofs.Results.{on_ok_to as on_ok}
 
 -- ---- a walk over one entry more
 
@@ -46,7 +47,7 @@ least_with_more : (ks : List SnapshotAt) (m : SnapshotAt) → least_snapshot (ks
 least_with_more [] m = refl
 least_with_more (l ∷ ks) m = ap (λ (k : SnapshotAt). Some k) (least_more l ks m)
 
--- ---- the rows behind it
+-- ---- the rows after it
 
 none_in : (own n i : ℕ) (remote : List ClusterPosition) (e : Entry) (c : Content) → IsNoSnapshot c → snapshot_in own n remote i e c ≡ []
 none_in own n i remote e content.Data h = refl
@@ -180,7 +181,3 @@ one_table_more [] zero = refl
 one_table_more [] (suc k) = refl
 one_table_more (t ∷ ts) zero = refl
 one_table_more (t ∷ ts) (suc k) = one_table_more ts k
-
-pub on_ok : {E : Type 0} (X Y : Type 0) (r : Result (Unit {0}) E) → (X → Y) → OnOk r X → OnOk r Y
-on_ok {E} X Y (Ok u) f x = f x
-on_ok {E} X Y (Err e) f x = tt

@@ -9,7 +9,7 @@ use Rattle.geo_base.specs.Traced.{SnapshotAt, least_snapshot, snapshots_from}
 use Rattle.geo_base.specs.Updating.{positions_for}
 use Rattle.trace_runs.specs.Told.{lesser}
 
--- the positions that a marker names for a cluster: a one before each, and a zero behind them
+-- the positions that a marker names for a cluster: a one before each, and a zero after them
 abbrev pub key_part : List Position → List ℕ
 key_part [] = 0 ∷ []
 key_part (p ∷ ps) = 1 ∷ p.ledger ∷ p.entry ∷ key_part ps

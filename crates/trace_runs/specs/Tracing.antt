@@ -8,8 +8,8 @@ use Rattle.geo_base.specs.Setup.{Setup}
 use Rattle.geo_base.specs.TraceItems.{Begins, Item}
 use Rattle.geo_base.specs.TraceText.{item_line}
 use Rattle.geo_base.specs.Traced.{cause_of, event_items, halt_items}
-use Rattle.broker.specs.Node.{BrokerBook}
-use Rattle.broker_state.specs.Plan.{PlanBook, plan_in}
+use Rattle.broker.specs.Node.{BrokerView}
+use Rattle.broker_state.specs.Plan.{PlanView, plan_in}
 use Rattle.trace_runs.specs.Acts.{acts_before}
 use Rattle.trace_runs.specs.SnapshotTables.{Snapshots, TellsBeginning, table_at}
 use Rattle.trace_runs.specs.Writes.{lines_of}
@@ -34,8 +34,8 @@ told_lines = record {
   settled = λ s w t. t;
 }
 
--- the text before, and then what is told of the first k writes that are prepared for an event at a broker, behind so many events
-abbrev pub text_of : Setup → List ℕ → ℕ → BrokerBook → Event → PlanBook → ℕ → List ℕ
+-- the text before, and then what is told of the first k writes that are prepared for an event at a broker, after so many events
+abbrev pub text_of : Setup → List ℕ → ℕ → BrokerView → Event → PlanView → ℕ → List ℕ
 text_of s old events v e p k =
     (old ++ (item_line s (Begins (events + 1)) ++ 10 ∷ [])) ++ lines_of v.site (acts_before v.site (cause_of v.broker e) v.broker (take k (plan_in v.broker p).writes))
 

@@ -7,11 +7,11 @@ use Rattle.geo_base.specs.declared.event.Event.TheVariants as event
 use Rattle.geo_base.specs.Broker.{Site, cluster_name}
 use Rattle.geo_base.specs.Cursor.{below}
 use Rattle.geo_base.specs.TraceItems.{Act}
-use Rattle.geo_base.specs.Updating.{passed_over}
+use Rattle.geo_base.specs.Updating.{updated_indexes}
 use Rattle.broker_subs.specs.declared.writing.SubWrite.{SubWrite}
 use Rattle.broker_subs.specs.declared.writing.SubWrite.TheVariants as sub_write
-use Rattle.broker_state.specs.declared.write.BookWrite.{BookWrite}
-use Rattle.broker_state.specs.declared.write.BookWrite.TheVariants as book_write
+use Rattle.broker_state.specs.declared.write.StateWrite.{StateWrite}
+use Rattle.broker_state.specs.declared.write.StateWrite.TheVariants as state_write
 use Rattle.trace_runs.specs.Naming.{Naming, act_line}
 
 -- the topic and the cluster of a broker, by their names
@@ -32,16 +32,16 @@ ReadsWithin h e = ⊤
 abbrev pub SubIsWithin : List Entry → SubWrite → Type 0
 SubIsWithin es (sub_write.Acks is) = All (λ i. i < length es) is
 SubIsWithin es (sub_write.AckTo i) = i < length es
-SubIsWithin es (sub_write.Passed i from runs) = i < length es
+SubIsWithin es (sub_write.UpdateTo i from runs) = i < length es
 SubIsWithin es w = ⊤
 
 -- the indexes that a write acknowledges
 abbrev pub indexes_acked : List Entry → SubWrite → List ℕ
 indexes_acked es (sub_write.Acks is) = is
 indexes_acked es (sub_write.AckTo i) = below (i + 1)
-indexes_acked es (sub_write.Passed i from runs) = passed_over from 0 (i + 1) es
+indexes_acked es (sub_write.UpdateTo i from runs) = updated_indexes from 0 (i + 1) es
 indexes_acked es w = []
 
-abbrev pub IsWithin : List Entry → BookWrite → Type 0
-IsWithin es (book_write.Sub w) = SubIsWithin es w
+abbrev pub IsWithin : List Entry → StateWrite → Type 0
+IsWithin es (state_write.Sub w) = SubIsWithin es w
 IsWithin es w = ⊤

@@ -25,7 +25,7 @@ pub fn add_begin(lines: &mut Blob, number: u64) -> Result<(), Memory>
     lines.append(b"\n")
 }
 
-/// `append TOPIC CLUSTER ENTRY`, and behind an update of the own cluster `by POSITION`, which is that of the snapshot that it tells.
+/// `append TOPIC CLUSTER ENTRY`, and after an update of the own cluster `by POSITION`, which is that of the snapshot that it tells.
 #[tactic(auto, using(crate::proofs::Lines::append_whole))]
 pub fn add_append(
     lines: &mut Blob,
@@ -124,7 +124,7 @@ fn start(latest: bool) -> &'static [u8]
     if latest { b"latest" } else { b"earliest" }
 }
 
-/// Who acknowledged, behind a space.
+/// Who acknowledged, after a space.
 fn add_cause(lines: &mut Blob, cause: Cause) -> Result<(), Memory>
     ensures ok { OnOk result (lines.new ≡ lines.old ++ spaced (shown_cause cause)) }
     ensures err { OnErr result (take (length lines.old) lines.new ≡ lines.old) }
@@ -140,7 +140,7 @@ fn add_cause(lines: &mut Blob, cause: Cause) -> Result<(), Memory>
     }
 }
 
-/// The snapshot that an update tells, behind a space.
+/// The snapshot that an update tells, after a space.
 fn add_by(lines: &mut Blob, by: Option<Position>) -> Result<(), Memory>
     ensures ok { OnOk result (lines.new ≡ lines.old ++ spaced (shown_by by)) }
     ensures err { OnErr result (take (length lines.old) lines.new ≡ lines.old) }

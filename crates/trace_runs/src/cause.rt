@@ -1,7 +1,7 @@
 //! Why an event acknowledges.
 ghost use Rattle.std.specs.Prelude.{◌≡◌, ◌<◌, length};
-ghost use Rattle.geo_base.specs.Broker.{sender_at};
-ghost use Rattle.geo_base.specs.Sender.{index_to_read};
+ghost use Rattle.geo_base.specs.Broker.{replicator_at};
+ghost use Rattle.geo_base.specs.Replicator.{index_to_read};
 ghost use Rattle.geo_base.specs.Traced.{cause_of, position_read};
 ghost use Rattle.trace_runs.specs.Writes.{ReadsWithin};
 
@@ -21,13 +21,13 @@ pub(crate) fn cause_of(node: &Broker, event: &Event) -> Cause
     }
 }
 
-/// The position of the entry that the sender to a cluster reads next; that of the first where it reads none.
+/// The position of the entry that the replicator to a cluster reads next; that of the first where it reads none.
 fn position_read(node: &Broker, remote: u32) -> Position
     requires { remote < length node.now.site.clusters }
-    ensures { result ≡ position_read node.now.broker (index_to_read (sender_at node.now.broker remote).state (sender_at node.now.broker remote) (length node.now.broker.entries)) }
+    ensures { result ≡ position_read node.now.broker (index_to_read (replicator_at node.now.broker remote).state (replicator_at node.now.broker remote) (length node.now.broker.entries)) }
 {
-    let row = node.sender(remote);
-    match row.sender().index_to_read(node.store(), row.cursor()) {
+    let row = node.replicator(remote);
+    match row.replicator().index_to_read(node.store(), row.cursor()) {
         None => or_first(None),
         Some(index) => or_first(node.store().position_of(index as usize)),
     }

@@ -15,11 +15,11 @@ ghost use Rattle.geo_base.specs.World.{World as Machine};
 ghost use Rattle.script_text.specs.Scenario.{IsEvent};
 ghost use Rattle.world.specs.declared.fault.RunFault.TheVariants as fault;
 ghost use Rattle.world.specs.Foreseen.{IsForeseen};
-ghost use Rattle.world.specs.Steps.{Acts, IsLater, Leads, place_at};
+ghost use Rattle.world.specs.Steps.{Acts, IsLater, Leads, broker_ref_at};
 ghost use Rattle.world.specs.World.{IsAt, SameWorld, kept_of, node_at};
-ghost use Rattle.world_kept.specs.Events.{IsBrokers, node_of};
-ghost use Rattle.world_kept.specs.Reached.{Reached};
-ghost use Rattle.world_kept.specs.Standing.{Stands};
+ghost use Rattle.kept_laws.specs.Events.{IsBrokers, node_of};
+ghost use Rattle.kept_laws.specs.Reached.{Reached};
+ghost use Rattle.kept_laws.specs.Standing.{Stands};
 ghost use Rattle.trace_runs.specs.Tracing.{AreTables, IsClients, item_lines, text_of};
 
 use crate::acts::add_begin;
@@ -29,7 +29,7 @@ use broker::Broker;
 use geo_base::{Event, Memory};
 use script_text::Scenario;
 use std::alloc::Global;
-use world::{Place, RunFault, World, place_of};
+use world::{BrokerRef, RunFault, World, broker_ref_of};
 
 impl Trace {
     /// An event of a client, of which a trace tells only that it happened.
@@ -111,19 +111,19 @@ impl Trace {
         ensures tables { OnOk result (AreTables scenario.now.setup self.new.telling.snapshots (kept_of world.new).brokers) }
         ensures err { OnErr result (SameWorld world.old world.new) }
     {
-        let place = place_of(scenario, event);
+        let broker_ref = broker_ref_of(scenario, event);
         self.plan.clear();
-        let is_ready = world.prepare(alloc, scenario, event, place, &mut self.plan)?;
+        let is_ready = world.prepare(alloc, scenario, event, broker_ref, &mut self.plan)?;
         if !is_ready {
             return Ok(false);
         }
         let writes = self.plan.write_count();
-        self.tell_at(alloc, world, scenario, event, place, writes)?;
-        world.finish(alloc, scenario, event, place, &mut self.plan)?;
+        self.tell_at(alloc, world, scenario, event, broker_ref, writes)?;
+        world.finish(alloc, scenario, event, broker_ref, &mut self.plan)?;
         Ok(true)
     }
 
-    /// A stop of a broker behind the first `writes` durable writes of an event, which have their lines.
+    /// A stop of a broker after the first `writes` durable writes of an event, which have their lines.
     pub(crate) fn stop_of_broker(
         &mut self,
         alloc: Global,
@@ -144,10 +144,10 @@ impl Trace {
         ensures tables { OnOk result (AreTables scenario.now.setup self.new.telling.snapshots (kept_of world.new).brokers) }
         ensures past { (n : ℕ) → result ≡ Err (fault.TooLarge n) → SameWorld world.old world.new }
     {
-        let place = place_of(scenario, event);
+        let broker_ref = broker_ref_of(scenario, event);
         self.plan.clear();
-        world.prepare_halt(alloc, scenario, event, place, &mut self.plan)?;
-        self.tell_at(alloc, world, scenario, event, place, writes as usize)?;
+        world.prepare_halt(alloc, scenario, event, broker_ref, &mut self.plan)?;
+        self.tell_at(alloc, world, scenario, event, broker_ref, writes as usize)?;
         world.halt(alloc, scenario, writes, event)
     }
 
@@ -158,27 +158,27 @@ impl Trace {
         world: &World,
         scenario: &Scenario,
         event: &Event,
-        place: Place,
+        broker_ref: BrokerRef,
         writes: usize,
     ) -> Result<(), Memory>
         requires at { IsAt scenario.now.setup world.now }
         requires tables { AreTables scenario.now.setup self.old.telling.snapshots (kept_of world.now).brokers }
         requires broker { IsBrokers event.now }
         requires scripted { IsEvent scenario.now.setup event.now }
-        requires place { place ≡ place_at scenario.now.setup event.now }
+        requires broker_ref { broker_ref ≡ broker_ref_at scenario.now.setup event.now }
         requires foreseen { (w : Machine) → Reached scenario.now.setup w → Stands scenario.now.setup (kept_of world.now) w
-            → IsForeseen scenario.now.setup w event.now (node_at world.now.nodes (node_of scenario.now.setup event.now)) self.old.plan }
+            → IsForeseen scenario.now.setup w event.now (node_at world.now.brokers (node_of scenario.now.setup event.now)) self.old.plan }
         ensures told { (w : Machine) → Reached scenario.now.setup w → Stands scenario.now.setup (kept_of world.now) w
-            → OnOk result (self.new.telling.text ≡ text_of scenario.now.setup self.old.telling.text w.events (node_at world.now.nodes (node_of scenario.now.setup event.now)) event.now self.old.plan writes) }
+            → OnOk result (self.new.telling.text ≡ text_of scenario.now.setup self.old.telling.text w.events (node_at world.now.brokers (node_of scenario.now.setup event.now)) event.now self.old.plan writes) }
         ensures tables { OnOk result (AreTables scenario.now.setup self.new.telling.snapshots (kept_of world.now).brokers) }
         ensures plan { self.new.plan ≡ self.old.plan }
     {
         let events = world.events();
-        let node = world.topic(scenario, place.topic, place.cluster);
+        let node = world.topic(scenario, broker_ref.topic, broker_ref.cluster);
         self.tell(alloc, events, node, event, writes)
     }
 
-    /// The line of an event behind so many, and those of the first `writes` durable writes that are prepared at its broker.
+    /// The line of an event after so many, and those of the first `writes` durable writes that are prepared at its broker.
     fn tell(
         &mut self,
         alloc: Global,

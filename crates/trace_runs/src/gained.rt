@@ -3,8 +3,8 @@ ghost use Rattle.std.specs.Prelude.{◌≡◌, ◌<◌, ◌+◌, if◌then◌els
 ghost use Rattle.std.specs.List.{All};
 ghost use Rattle.geo_base.specs.Cursor.{below, with_index};
 ghost use Rattle.geo_base.specs.Traced.{gained};
-ghost use Rattle.geo_base.specs.Updating.{passed_over, passes};
-ghost use Rattle.sub_update.specs.Alone.{passes_some};
+ghost use Rattle.geo_base.specs.Updating.{updated_indexes, is_updated};
+ghost use Rattle.replicated_subs.specs.Alone.{is_some_updated};
 
 use cursor_acks::Cursor;
 use geo_base::{Content, Entry, EntryStore, Memory};
@@ -44,7 +44,7 @@ pub fn gained_to(alloc: Global, cursor: &Cursor, index: u64, len: u64) -> Result
 }
 
 /// Those that an update of the cluster `from` passes over up to an index of the topic.
-pub fn gained_passed<S: EntryStore>(
+pub fn gained_by_update<S: EntryStore>(
     alloc: Global,
     cursor: &Cursor,
     store: &S,
@@ -52,20 +52,20 @@ pub fn gained_passed<S: EntryStore>(
     from: u32,
 ) -> Result<Cursor, Memory>
     requires within { index < length (S.entries store.now) }
-    ensures { IfOk result (λ c. c.indexes ≡ gained cursor.now.indexes (passed_over from 0 (index + 1) (S.entries store.now))) }
+    ensures { IfOk result (λ c. c.indexes ≡ gained cursor.now.indexes (updated_indexes from 0 (index + 1) (S.entries store.now))) }
 {
     let len = store.len() as u64;
     let mut gained = Cursor::none(alloc);
     let mut at = cursor.next_open(0);
     while at <= index {
-        add_passed(&mut gained, store, at, len, from)?;
+        add_updated(&mut gained, store, at, len, from)?;
         at = cursor.next_open(at + 1);
     }
     Ok(gained)
 }
 
 /// Adds an index of a topic of so many entries, if an update passes over the entry there.
-fn add_passed<S: EntryStore>(
+fn add_updated<S: EntryStore>(
     gained: &mut Cursor,
     store: &S,
     at: u64,
@@ -73,17 +73,17 @@ fn add_passed<S: EntryStore>(
     from: u32,
 ) -> Result<(), Memory>
     requires within { at < len }
-    ensures { OnOk result (gained.new.indexes ≡ (if passes_some from (slice_get (S.entries store.now) at) then with_index gained.old.indexes at else gained.old.indexes)) }
+    ensures { OnOk result (gained.new.indexes ≡ (if is_some_updated from (slice_get (S.entries store.now) at) then with_index gained.old.indexes at else gained.old.indexes)) }
 {
     match store.get(at as usize) {
-        Some(entry) if passes(entry, from) => add(gained, at, len),
+        Some(entry) if is_updated(entry, from) => add(gained, at, len),
         _ => Ok(()),
     }
 }
 
 /// Whether an update of a cluster passes over an entry.
-fn passes(entry: &Entry, from: u32) -> bool
-    ensures { result ≡ passes from entry.now }
+fn is_updated(entry: &Entry, from: u32) -> bool
+    ensures { result ≡ is_updated from entry.now }
 {
     match entry.content {
         Content::Data => entry.ident.origin == from || entry.to.contains(from),

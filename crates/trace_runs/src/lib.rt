@@ -1,4 +1,4 @@
-//! The trace of a run: each event that was not idle, by its number, and behind it what it wrote durably, line by line.
+//! The trace of a run: each event that was not idle, by its number, and after it what it wrote durably, line by line.
 //!
 //! A line ends with its line feed, and is exactly the one that `geo_base`'s definition of a trace has. Each call that makes one appends it
 //! to those before it. Where memory ends in the midst, an `Err`, what stood before stands, with a part of the line or none: the lines of

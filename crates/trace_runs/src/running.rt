@@ -6,8 +6,8 @@ ghost use Rattle.geo_base.specs.World.{World as Machine};
 ghost use Rattle.script_text.specs.Scenario.{IsStep};
 ghost use Rattle.world.specs.Runs.{Comes, at_world};
 ghost use Rattle.world.specs.World.{IsAt, kept_of};
-ghost use Rattle.world_kept.specs.Reached.{Reached};
-ghost use Rattle.world_kept.specs.Standing.{Stands};
+ghost use Rattle.kept_laws.specs.Reached.{Reached};
+ghost use Rattle.kept_laws.specs.Standing.{Stands};
 ghost use Rattle.trace_runs.specs.Tracing.{item_lines};
 
 use crate::acts::add_begin;

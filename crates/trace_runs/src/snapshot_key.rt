@@ -4,11 +4,11 @@ ghost use Rattle.std.proofs.Common.{rules};
 ghost use Rattle.std.specs.Cmp.Rules.{comparing, hashing};
 ghost use Rattle.std.specs.Hash as fed;
 ghost use Rattle.std.specs.Str.{bytes_eq};
-ghost use Rattle.geo_base.specs.Entry.{is_place};
+ghost use Rattle.geo_base.specs.Entry.{means_cluster};
 ghost use Rattle.geo_base.specs.Updating.{positions_for};
 ghost use Rattle.trace_runs.specs.SnapshotTables.{key_part, snapshot_key};
 
-use geo_base::{ClusterPosition, Memory, Place, Position};
+use geo_base::{ClusterPosition, ClusterRef, Memory, Position};
 use std::alloc::Global;
 use std::hash::{Hash, Hasher};
 use std::marker::Model;
@@ -74,7 +74,7 @@ impl Hash for SnapshotKey {
     }
 }
 
-/// Adds the positions that are named for a cluster, each behind a one, and a zero behind them.
+/// Adds the positions that are named for a cluster, each after a one, and a zero after them.
 fn add_positions(
     numbers: &mut Vec<u64>,
     cluster: u32,
@@ -83,7 +83,7 @@ fn add_positions(
     ensures { OnOk result (numbers.new.items ≡ numbers.old.items ++ key_part (positions_for cluster remote.now)) }
 {
     for named in remote {
-        if is_place(cluster, &named.cluster) {
+        if means_cluster(cluster, &named.cluster) {
             add_position(numbers, named.position)?;
         }
     }
@@ -101,11 +101,11 @@ fn add_position(numbers: &mut Vec<u64>, position: Position) -> Result<(), Memory
 }
 
 /// Whether a place is the cluster of a number.
-fn is_place(cluster: u32, place: &Place) -> bool
-    ensures { result ≡ is_place cluster place.now }
+fn means_cluster(cluster: u32, place: &ClusterRef) -> bool
+    ensures { result ≡ means_cluster cluster place.now }
 {
     match place {
-        Place::Known(other) => cluster == *other,
-        Place::Stranger(_) => false,
+        ClusterRef::Known(other) => cluster == *other,
+        ClusterRef::Stranger(_) => false,
     }
 }

@@ -55,7 +55,7 @@ impl SnapshotTable {
         }
     }
 
-    /// Of an update of a cluster, one of so many, which is stored behind these entries of its own topic, the position of the snapshot that
+    /// Of an update of a cluster, one of so many, which is stored after these entries of its own topic, the position of the snapshot that
     /// it tells: of that cluster's snapshot markers with the same positions of other clusters the one with the least local position, and the
     /// first of these. None of any other entry. The entries that were not seen yet are seen before.
     #[tactic(auto, using(crate::proofs::Tables::told_not, crate::proofs::Tables::told_found))]

@@ -6,7 +6,7 @@ ghost use Rattle.geo_base.specs.Traced.{cursor_of};
 ghost use Rattle.broker_state.specs.Plan.{created_name, name_in};
 
 use broker::Broker;
-use broker_state::{BookWrite, Plan};
+use broker_state::{Plan, StateWrite};
 use broker_subs::Sub;
 use cursor_acks::Cursor;
 
@@ -14,7 +14,7 @@ use cursor_acks::Cursor;
 pub(crate) fn name_of<'a>(node: &'a Broker, plan: &'a Plan) -> &'a [u8]
     ensures { result.now ≡ name_in node.entry.now.broker.subs plan.entry.now }
 {
-    match node.sub(plan.place()) {
+    match node.sub(plan.sub_index()) {
         Some(sub) => sub.name().as_str().as_bytes(),
         None => created_name(plan),
     }
@@ -28,7 +28,7 @@ fn created_name(plan: &Plan) -> &[u8]
         return b"";
     }
     match plan.write_at(0) {
-        BookWrite::Create { sub, .. } => sub.name().as_str().as_bytes(),
+        StateWrite::Create { sub, .. } => sub.name().as_str().as_bytes(),
         _ => b"",
     }
 }
@@ -39,8 +39,8 @@ pub(crate) fn cursor_of<'a>(node: &'a Broker, sub: &[u8], none: &'a Cursor) -> &
     requires { none.now.indexes ≡ [] }
     ensures { result.now.indexes ≡ cursor_of (sub_named node.entry.now.broker.subs sub.now) }
 {
-    for place in 0..node.subs() {
-        match node.sub(place) {
+    for sub_index in 0..node.subs() {
+        match node.sub(sub_index) {
             Some(found) if is_named(found, sub) => return found.cursor(),
             Some(_) => {}
             None => unreachable!(),

@@ -16,7 +16,7 @@ pub struct Trace {
 }
 
 impl Trace {
-    /// A trace behind a text, which goes before its lines. It takes no memory.
+    /// A trace after a text, which goes before its lines. It takes no memory.
     pub fn behind(alloc: Global, text: Blob) -> Trace
         ensures { result.telling.text ≡ text }
     {

@@ -15,13 +15,13 @@ ghost use Rattle.trace_runs.specs.Writes.{IsWithin, ReadsWithin, SubIsWithin, in
 
 use crate::acts::{add_acks, add_append, add_create, add_delete, add_seek};
 use crate::cause::cause_of;
-use crate::gained::{gained_each, gained_passed, gained_to};
+use crate::gained::{gained_by_update, gained_each, gained_to};
 use crate::naming::naming;
 use crate::snapshot_lines::snapshot_told;
 use crate::subs::{cursor_of, name_of};
 use crate::telling::Telling;
 use broker::Broker;
-use broker_state::{BookWrite, Plan};
+use broker_state::{Plan, StateWrite};
 use broker_subs::SubWrite;
 use cursor_acks::Cursor;
 use geo_base::{Blob, Cause, Entry, EntryStore, Event, Memory};
@@ -61,7 +61,7 @@ fn add_write(
     node: &Broker,
     cause: Cause,
     sub: &[u8],
-    write: &BookWrite,
+    write: &StateWrite,
 ) -> Result<(), Memory>
     requires within { IsWithin node.now.broker.entries write.now }
     requires known { Knows node.now telling.old.snapshots }
@@ -70,16 +70,17 @@ fn add_write(
     ensures err { OnErr result (take (length telling.old.text) telling.new.text ≡ telling.old.text) }
 {
     match write {
-        BookWrite::Append { entry, .. } => append(alloc, telling, node, entry),
-        BookWrite::Create { sub, latest } => {
+        StateWrite::Append { entry, .. } => append(alloc, telling, node, entry),
+        StateWrite::Create { sub, latest } => {
             let name = sub.name().as_str().as_bytes();
             add_create(&mut telling.text, &naming(node), name, *latest)
         }
-        BookWrite::Delete => add_delete(&mut telling.text, &naming(node), sub),
-        BookWrite::Sub(write) => {
+        StateWrite::Delete => add_delete(&mut telling.text, &naming(node), sub),
+        StateWrite::Sub(write) => {
             add_sub_write(alloc, &mut telling.text, node, cause, sub, write)
         },
-        BookWrite::SenderAck { .. } | BookWrite::SessionNumber { .. } | BookWrite::Ledger => Ok(()),
+        StateWrite::ReplicatorAck { .. } | StateWrite::SessionNumber { .. } | StateWrite::Ledger =>
+            Ok(()),
     }
 }
 
@@ -116,7 +117,7 @@ fn add_sub_write(
     ensures err { OnErr result (take (length lines.old) lines.new ≡ lines.old) }
 {
     match write {
-        SubWrite::Acks(_) | SubWrite::AckTo(_) | SubWrite::Passed { .. } => {
+        SubWrite::Acks(_) | SubWrite::AckTo(_) | SubWrite::UpdateTo { .. } => {
             add_gained(alloc, lines, node, cause, sub, write)
         }
         SubWrite::Seek(index) => add_seek(lines, &naming(node), sub, *index),
@@ -169,7 +170,9 @@ fn gained_over(
     match write {
         SubWrite::Acks(indexes) => gained_each(alloc, cursor, indexes.as_slice(), len),
         SubWrite::AckTo(index) => gained_to(alloc, cursor, *index, len),
-        SubWrite::Passed { index, from, .. } => gained_passed(alloc, cursor, store, *index, *from),
+        SubWrite::UpdateTo { index, from, .. } => gained_by_update(
+            alloc, cursor, store, *index, *from,
+        ),
         SubWrite::Seek(_) | SubWrite::Alter { .. } => Ok(Cursor::none(alloc)),
     }
 }

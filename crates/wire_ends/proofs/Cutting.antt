@@ -67,7 +67,7 @@ part_less n most some few = by_le n most
 
 -- WHICH BYTES
 
--- one more part behind those of the first bytes
+-- one more part after those of the first bytes
 pub more_bytes : (bytes : List ℕ) (at n : ℕ) (parts : List (List ℕ)) → concat parts ≡ take at bytes
     → concat (parts ++ take n (drop at bytes) ∷ []) ≡ take (at + n) bytes
 more_bytes bytes at n parts so_far =

@@ -1,8 +1,7 @@
 -- What pieces give, and how they are joined.
-use Rattle.std.proofs.Common.{◌≡◌, ℕ, ◌+◌, ◌<◌, Bool, true, false, List, [], ◌∷◌, ◌++◌, length, refl, sym, ap, subst, ◌∙◌, arith}
-use Rattle.std.specs.Prelude.{Option, Some, None, ◌==◌, if◌then◌else◌, nat_le, slice_get, take, zero, suc}
+use Rattle.std.proofs.Common.{◌≡◌, ℕ, ◌+◌, ◌<◌, true, false, List, [], ◌∷◌, ◌++◌, length, refl, sym, ap, subst, ◌∙◌, arith}
+use Rattle.std.specs.Prelude.{Option, Some, None, ◌==◌, nat_le, slice_get, take, zero, suc}
 use Rattle.std.specs.List.{concat}
-use Rattle.std.proofs.lemmas.Bool.{false≢true}
 use Rattle.std.proofs.lemmas.Bool.Decides.{nat_tests}
 use Rattle.std.proofs.lemmas.List.{append-nil, append_assoc, length-append, take_all}
 use Rattle.std.proofs.Math.Seq.{take-append_seam}
@@ -13,14 +12,7 @@ use Rattle.wire_ends.specs.Looks.{Stays}
 use Rattle.wire_ends.specs.Parcels.{Packed, as_parts, pieces_of}
 use Rattle.wire_ends.specs.PieceEnds.{IsAtRest, PieceState, untaken}
 use Rattle.wire_ends.specs.Pieces.{Begun, begun_after, begun_at_end, begun_by, cut_off, gives, head_gives, packets_from, still_begun, whole_of, with_part}
-
-tested : {A : Type 0} (c : Bool) (x y : A) → c ≡ true → (if c then x else y) ≡ x
-tested true x y e = refl
-tested false x y e = absurd (false≢true e)
-
-failed : {A : Type 0} (c : Bool) (x y : A) → c ≡ false → (if c then x else y) ≡ y
-failed true x y e = absurd (false≢true (sym e))
-failed false x y e = refl
+use Rattle.geo_base.proofs.Bools.{if_false, if_true}
 
 by_zero : {P : Type 0} (n : ℕ) → (n ≡ 0 → P) → (0 < n → P) → P
 by_zero zero f g = f refl
@@ -70,7 +62,7 @@ last_part b x xs fits rest =
     let test : nat_le w.len (length w.bytes) ≡ true = grind (arith, nat_tests, all) in
     let frame : take b.len (b.bytes ++ x) ≡ b.bytes ++ (x ++ concat xs) =
     take_all b.len (b.bytes ++ x) (omega (arith, all)) ∙ ap (λ (m : List ℕ). b.bytes ++ m) (sym (append-nil x) ∙ ap (λ (m : List ℕ). x ++ m) (sym (none_left (concat xs) rest))) in
-    gives_by w (as_parts xs) _ _ (tested _ _ _ test) (tested _ _ _ test)
+    gives_by w (as_parts xs) _ _ (if_true _ _ _ test) (if_true _ _ _ test)
     ∙ ap (λ (ys : List WirePacket). (record { session = b.session; stamp = b.stamp; frame = take b.len (b.bytes ++ x) } ∷ []) ++ ys) (dropped xs)
     ∙ ap (λ (f : List ℕ). (record { session = b.session; stamp = b.stamp; frame = f }) ∷ []) frame
 
@@ -82,7 +74,7 @@ parts_give b (x ∷ xs) fits some = by_zero (length (concat xs)) (last_part b x 
     let less : length (b.bytes ++ x) < b.len = omega (arith, fits, more, length-append b.bytes x, length-append x (concat xs)) in
     let test : nat_le w.len (length w.bytes) ≡ false = grind (arith, nat_tests, less) in
     let left : w.len ≡ length w.bytes + length (concat xs) = omega (arith, fits, length-append b.bytes x, length-append x (concat xs)) in
-    gives_by w (as_parts xs) [] (Some w) (failed _ _ _ test) (failed _ _ _ test)
+    gives_by w (as_parts xs) [] (Some w) (if_false _ _ _ test) (if_false _ _ _ test)
     ∙ parts_give w xs left more
     ∙ ap (λ (f : List ℕ). (record { session = b.session; stamp = b.stamp; frame = f }) ∷ []) (append_assoc b.bytes x (concat xs)))
 
@@ -92,7 +84,7 @@ last_ends b x xs fits rest =
     let w = with_part b x in
     let all : b.len ≡ length (b.bytes ++ x) = omega (arith, fits, rest, length-append b.bytes x, length-append x (concat xs)) in
     let test : nat_le w.len (length w.bytes) ≡ true = grind (arith, nat_tests, all) in
-    ap (λ (o : Option Begun). begun_at_end o (as_parts xs)) (tested _ None (Some w) test) ∙ none_begun xs
+    ap (λ (o : Option Begun). begun_at_end o (as_parts xs)) (if_true _ None (Some w) test) ∙ none_begun xs
 
 pub parts_end : (b : Begun) (parts : List (List ℕ)) → b.len ≡ length b.bytes + length (concat parts) → 0 < length (concat parts)
     → begun_at_end (Some b) (as_parts parts) ≡ None
@@ -102,7 +94,7 @@ parts_end b (x ∷ xs) fits some = by_zero (length (concat xs)) (last_ends b x x
     let less : length (b.bytes ++ x) < b.len = omega (arith, fits, more, length-append b.bytes x, length-append x (concat xs)) in
     let test : nat_le w.len (length w.bytes) ≡ false = grind (arith, nat_tests, less) in
     let left : w.len ≡ length w.bytes + length (concat xs) = omega (arith, fits, length-append b.bytes x, length-append x (concat xs)) in
-    ap (λ (o : Option Begun). begun_at_end o (as_parts xs)) (failed _ None (Some w) test) ∙ parts_end w xs left more)
+    ap (λ (o : Option Begun). begun_at_end o (as_parts xs)) (if_false _ None (Some w) test) ∙ parts_end w xs left more)
 
 -- PARCELS
 
@@ -115,8 +107,8 @@ headed : (session stamp : ℕ) (frame : List ℕ) (parts : List (List ℕ)) → 
 headed session stamp [] parts cut = ap (λ (ys : List WirePacket). (record { session = session; stamp = stamp; frame = [] }) ∷ ys) (dropped parts)
 headed session stamp (b ∷ bs) parts cut =
     let n : ℕ = length (b ∷ bs) in let t : (n == 0) ≡ false = some_bytes (length bs) in
-    ap (λ (ws : List WirePacket). ws ++ packets_from (begun_by session stamp n) (as_parts parts)) (failed (n == 0) _ _ t)
-    ∙ ap (λ (o : Option Begun). packets_from o (as_parts parts)) (failed (n == 0) _ _ t)
+    ap (λ (ws : List WirePacket). ws ++ packets_from (begun_by session stamp n) (as_parts parts)) (if_false (n == 0) _ _ t)
+    ∙ ap (λ (o : Option Begun). packets_from o (as_parts parts)) (if_false (n == 0) _ _ t)
     ∙ parts_give (record { session = session; stamp = stamp; len = n; bytes = [] }) parts (omega (arith, ap length cut)) (subst (λ (f : List ℕ). 0 < length f) (sym cut) (omega arith))
     ∙ ap (λ (f : List ℕ). (record { session = session; stamp = stamp; frame = f }) ∷ []) cut
 
@@ -124,10 +116,10 @@ head_ends : (session stamp : ℕ) (frame : List ℕ) (parts : List (List ℕ)) �
 head_ends session stamp [] parts cut = none_begun parts
 head_ends session stamp (b ∷ bs) parts cut =
     let n : ℕ = length (b ∷ bs) in
-    ap (λ (o : Option Begun). begun_at_end o (as_parts parts)) (failed (n == 0) _ _ (some_bytes (length bs)))
+    ap (λ (o : Option Begun). begun_at_end o (as_parts parts)) (if_false (n == 0) _ _ (some_bytes (length bs)))
     ∙ parts_end (record { session = session; stamp = stamp; len = n; bytes = [] }) parts (omega (arith, ap length cut)) (subst (λ (f : List ℕ). 0 < length f) (sym cut) (omega arith))
 
--- a parcel behind any pieces gives its packet; one that had begun before is cut off
+-- a parcel after any pieces gives its packet; one that had begun before is cut off
 pub parcel_gives : (o : Option Begun) (ps : List Piece) (p : Packed) → concat p.parts ≡ p.packet.frame
     → packets_from o (ps ++ pieces_of p) ≡ packets_from o ps ++ (cut_off (begun_at_end o ps) ++ p.packet ∷ [])
 parcel_gives o ps p cut =

@@ -10,7 +10,7 @@ pub record Packed : Type 0 where
   pub parts : List (List ℕ)
   pub places : ℕ
 
--- a first part and those behind it; a frame without a byte has no part
+-- a first part and those after it; a frame without a byte has no part
 abbrev pub parts_of : List ℕ → List (List ℕ) → List (List ℕ)
 parts_of [] rest = []
 parts_of (b ∷ bs) rest = (b ∷ bs) ∷ rest

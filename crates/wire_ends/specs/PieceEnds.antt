@@ -20,7 +20,7 @@ pub record PieceState : Type 0 where
 abbrev pub untaken : PieceState → List WirePacket
 untaken s = s.gathered.whole ++ packets_from s.gathered.begun s.pieces
 
--- no packet is unfinished behind all pieces: the next parcel is a packet of its own
+-- no packet is unfinished after all pieces: the next parcel is a packet of its own
 abbrev pub IsAtRest : PieceState → Type 0
 IsAtRest s = begun_at_end s.gathered.begun s.pieces ≡ None
 

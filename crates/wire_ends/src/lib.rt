@@ -7,19 +7,19 @@
 #![tactic(auto)]
 
 mod end;
+mod ghost_history;
 mod joiner;
 mod list_end;
 mod packet;
 mod parcel;
-mod passed;
 mod piece;
 mod piece_end;
 
 pub use end::End;
+pub use ghost_history::GhostHistory;
 pub use joiner::Joiner;
 pub use list_end::ListEnd;
 pub use packet::WirePacket;
 pub use parcel::{Parcel, Pieces};
-pub use passed::Passed;
 pub use piece::{PART_BYTES, Piece};
 pub use piece_end::PieceEnd;

@@ -5,9 +5,9 @@ ghost use Rattle.wire_ends.specs.Looks.{Looked, one_more};
 ghost use Rattle.wire_ends.specs.Parcels.{IsWhole};
 
 use crate::end::End;
+use crate::ghost_history::GhostHistory;
 use crate::packet::WirePacket;
 use crate::parcel::Parcel;
-use crate::passed::Passed;
 use geo_base::Memory;
 use std::alloc::Global;
 use std::collections::VecDeque;
@@ -21,8 +21,8 @@ pub struct ListEnd {
     held: VecDeque<WirePacket>,
     places: usize,
     looks: u64,
-    sent: Passed<WirePacket>,
-    taken: Passed<WirePacket>,
+    sent: GhostHistory<WirePacket>,
+    taken: GhostHistory<WirePacket>,
 }
 
 impl Model for ListEnd {
@@ -47,8 +47,8 @@ impl ListEnd {
             held: VecDeque::with_capacity(alloc, places)?,
             places,
             looks: 0,
-            sent: Passed::new(),
-            taken: Passed::new(),
+            sent: GhostHistory::new(),
+            taken: GhostHistory::new(),
         })
     }
 
@@ -60,7 +60,7 @@ impl ListEnd {
         self.held.pop_front()
     }
 
-    /// Puts a packet behind those that are still to be taken. It needs no free place; an `Err` is want of memory.
+    /// Puts a packet after those that are still to be taken. It needs no free place; an `Err` is want of memory.
     pub fn put(&mut self, packet: WirePacket) -> Result<(), Memory>
         ensures ok { OnOk result (self.new ≡ record self.old { held = self.old.held ++ packet ∷ [] }) }
         ensures err { OnErr result (self.new ≡ self.old) }

@@ -13,10 +13,10 @@ ghost use Rattle.wire_ends.specs.PieceEnds.{IsAtRest, piece_shown, untaken};
 ghost use Rattle.wire_ends.specs.Pieces.{begun_at_end, cut_off, packets};
 
 use crate::end::End;
+use crate::ghost_history::GhostHistory;
 use crate::joiner::Joiner;
 use crate::packet::WirePacket;
 use crate::parcel::{Parcel, Pieces};
-use crate::passed::Passed;
 use crate::piece::Piece;
 use geo_base::Memory;
 use std::alloc::Global;
@@ -32,8 +32,8 @@ pub struct PieceEnd {
     room: usize,
     most: usize,
     looks: u64,
-    sent: Passed<Parcel>,
-    taken: Passed<WirePacket>,
+    sent: GhostHistory<Parcel>,
+    taken: GhostHistory<WirePacket>,
 }
 
 impl Model for PieceEnd {
@@ -63,7 +63,7 @@ impl PieceEnd {
         requires { 0 < most }
         ensures pieces { IfOk result (λ e. e.pieces ≡ []) }
         ensures gathered { IfOk result (λ e. e.gathered ≡ record { begun = None; whole = [] }) }
-        ensures passed { IfOk result (λ e. (e.sent ≡ []) × (e.taken ≡ [])) }
+        ensures ghost_history { IfOk result (λ e. (e.sent ≡ []) × (e.taken ≡ [])) }
         ensures most { IfOk result (λ e. e.most ≡ most) }
         ensures unused { IfOk result (λ e. (e.room ≡ 0) × (e.looks ≡ 0)) }
     {
@@ -76,7 +76,7 @@ impl PieceEnd {
         ensures pieces { result.pieces ≡ pieces.items }
         ensures gathered { result.gathered ≡ record { begun = None; whole = [] } }
         ensures untaken { untaken result ≡ packets pieces.items }
-        ensures passed { (result.sent ≡ []) × (result.taken ≡ []) }
+        ensures ghost_history { (result.sent ≡ []) × (result.taken ≡ []) }
         ensures most { result.most ≡ most }
         ensures unused { (result.room ≡ 0) × (result.looks ≡ 0) }
     {
@@ -87,8 +87,8 @@ impl PieceEnd {
             room: 0,
             most,
             looks: 0,
-            sent: Passed::new(),
-            taken: Passed::new(),
+            sent: GhostHistory::new(),
+            taken: GhostHistory::new(),
         }
     }
 
@@ -114,7 +114,7 @@ impl PieceEnd {
         self.gathered.keep(count);
     }
 
-    /// Gathers a packet that comes as it is, in no pieces, behind those that were gathered; unchanged where memory is wanting. What
+    /// Gathers a packet that comes as it is, in no pieces, after those that were gathered; unchanged where memory is wanting. What
     /// `send` sent is not counted up.
     pub fn add_whole(&mut self, packet: WirePacket) -> Result<(), Memory>
         ensures ok { OnOk result (self.new ≡ record self.old { gathered = record { begun = self.old.gathered.begun; whole = self.old.gathered.whole ++ packet ∷ [] } }) }
@@ -159,7 +159,7 @@ impl PieceEnd {
     }
 }
 
-/// Puts pieces behind all others.
+/// Puts pieces after all others.
 fn put(pieces: &mut VecDeque<Piece>, more: Pieces)
     requires { deque_len pieces.old + length more ≤ deque_capacity pieces.old }
     ensures items { pieces.new.items ≡ pieces.old.items ++ more }

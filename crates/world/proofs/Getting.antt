@@ -21,20 +21,21 @@ use Rattle.links.specs.declared.name.Node.TheVariants as wire_node
 use Rattle.wire_ends.specs.declared.packet.WirePacket.{WirePacket}
 use Rattle.links.specs.Each.{Both, both, neither}
 use Rattle.links.specs.Queues.{packet_on}
-use Rattle.world_kept.proofs.Keeping.{client_gets, client_waits, counts, input}
-use Rattle.world_kept.specs.Kept.{Kept, client_acted, idled, stamp_at}
-use Rattle.world_kept.specs.Standing.{Stands, limit_of}
-use Rattle.world_kept.proofs.Reaching.{told_frames}
-use Rattle.world_kept.specs.Reached.{Reached}
+use Rattle.kept_laws.proofs.Keeping.{client_gets, client_waits, counts, input}
+use Rattle.kept_laws.specs.Kept.{Kept, client_acted, idled, stamp_at}
+use Rattle.kept_laws.specs.Standing.{Stands, limit_of}
+use Rattle.kept_laws.proofs.Reaching.{told_frames}
+use Rattle.kept_laws.specs.Reached.{Reached}
 use Rattle.world.specs.ClientSteps.{IsGot, after_got, client_in, no_client}
 use Rattle.world.specs.declared.fault.RunFault.{RunFault}
 use Rattle.world.specs.declared.fault.RunFault.TheVariants as fault
 use Rattle.world.specs.Steps.{Leads}
-use Rattle.world.specs.World.{AreNodes, IsAt, WorldBook, kept_of}
+use Rattle.world.specs.World.{AreNodes, IsAt, WorldView, kept_of}
 use Rattle.world.proofs.ClientEvents.{client_is, clock_below, has, stamp_within}
 use Rattle.world.proofs.Halting.{ok_err}
 use Rattle.world.proofs.Leading.{failed}
 use Rattle.world.proofs.Limits.{by_tests}
+use Rattle.geo_base.proofs.Bools.{by_truth}
 
 -- ---- at the client
 
@@ -42,7 +43,7 @@ next_is : (names : List (List ℕ)) (o : Option WirePacket) (v : Option Packet) 
 next_is names _ _ neither = tt
 next_is names (Some p) (Some q) (both r) = record { session = r.session; frame = r.frame }
 
-pub got : (old new : WorldBook) (names : List (List ℕ)) (d : Declared) (c : ℕ) (link : LinkName) (m : Client) (r : Result Bool Memory) (i : Option WirePacket)
+pub got : (old new : WorldView) (names : List (List ℕ)) (d : Declared) (c : ℕ) (link : LinkName) (m : Client) (r : Result Bool Memory) (i : Option WirePacket)
     → i ≡ packet_on old.links (Some link) → new ≡ record old { clients = slice_set old.clients c m }
     → ((v : Option Packet) → StandsForNext names i v → OnOk r (m ≡ (get d (client_in old.clients c) v).client))
     → ((v : Option Packet) → StandsForNext names i v → IfOk r (λ took. not took ≡ (get d (client_in old.clients c) v).idle))
@@ -57,7 +58,7 @@ got old new names d c link m (Ok took) i taken is client idle =
       rest = refl;
     })
 
-pub not_got : (old new : WorldBook) (c : ℕ) (m : Client) (r : Result Bool Memory) → new ≡ record old { clients = slice_set old.clients c m } → OnErr r (m ≡ client_in old.clients c)
+pub not_got : (old new : WorldView) (c : ℕ) (m : Client) (r : Result Bool Memory) → new ≡ record old { clients = slice_set old.clients c m } → OnErr r (m ≡ client_in old.clients c)
     → OnErr r (new ≡ old)
 not_got old new c m (Ok took) is same = tt
 not_got old new c m (Err e) is same =
@@ -65,25 +66,25 @@ not_got old new c m (Err e) is same =
 
 -- ---- what is counted after it
 
-pub got_clock : (s : Setup) (old mid : WorldBook) (names : List (List ℕ)) (d : Declared) (c : ℕ) (link : LinkName) (took : Bool) → IsAt s old → c < length s.clients
+pub got_clock : (s : Setup) (old mid : WorldView) (names : List (List ℕ)) (d : Declared) (c : ℕ) (link : LinkName) (took : Bool) → IsAt s old → c < length s.clients
     → IsGot names d c link old mid took → c < length mid.client_clocks
-got_clock s old mid names d c link took h lt g = subst (λ (b : WorldBook). c < length b.client_clocks) (sym g.rest) (clock_below s old c h lt)
+got_clock s old mid names d c link took h lt g = subst (λ (b : WorldView). c < length b.client_clocks) (sym g.rest) (clock_below s old c h lt)
 
-pub got_stamp : (s : Setup) (old mid : WorldBook) (names : List (List ℕ)) (d : Declared) (c : ℕ) (link : LinkName) (took : Bool) → IsAt s old → IsGot names d c link old mid took
+pub got_stamp : (s : Setup) (old mid : WorldView) (names : List (List ℕ)) (d : Declared) (c : ℕ) (link : LinkName) (took : Bool) → IsAt s old → IsGot names d c link old mid took
     → stamp_at mid.client_clocks c mid.links (Some link) < 2 ^ 64
-got_stamp s old mid names d c link took h g = subst (λ (b : WorldBook). stamp_at b.client_clocks c b.links (Some link) < 2 ^ 64) (sym g.rest) (stamp_within s old c (Some link) h)
+got_stamp s old mid names d c link took h g = subst (λ (b : WorldView). stamp_at b.client_clocks c b.links (Some link) < 2 ^ 64) (sym g.rest) (stamp_within s old c (Some link) h)
 
-pub got_events : (s : Setup) (old mid : WorldBook) (names : List (List ℕ)) (d : Declared) (c : ℕ) (link : LinkName) (took : Bool) → IsAt s old → IsGot names d c link old mid took
+pub got_events : (s : Setup) (old mid : WorldView) (names : List (List ℕ)) (d : Declared) (c : ℕ) (link : LinkName) (took : Bool) → IsAt s old → IsGot names d c link old mid took
     → mid.events + 1 < 2 ^ 64
 got_events s old mid names d c link took h g =
     let most : old.events + old.idle ≤ 2000000 = h.within.few in
-    subst (λ (b : WorldBook). b.events + 1 < 2 ^ 64) (sym g.rest) (omega (arith, most))
+    subst (λ (b : WorldView). b.events + 1 < 2 ^ 64) (sym g.rest) (omega (arith, most))
 
-pub got_idle : (s : Setup) (old mid : WorldBook) (names : List (List ℕ)) (d : Declared) (c : ℕ) (link : LinkName) (took : Bool) → IsAt s old → IsGot names d c link old mid took
+pub got_idle : (s : Setup) (old mid : WorldView) (names : List (List ℕ)) (d : Declared) (c : ℕ) (link : LinkName) (took : Bool) → IsAt s old → IsGot names d c link old mid took
     → mid.idle + 1 < 2 ^ 64
 got_idle s old mid names d c link took h g =
     let most : old.events + old.idle ≤ 2000000 = h.within.few in
-    subst (λ (b : WorldBook). b.idle + 1 < 2 ^ 64) (sym g.rest) (omega (arith, most))
+    subst (λ (b : WorldView). b.idle + 1 < 2 ^ 64) (sym g.rest) (omega (arith, most))
 
 -- ---- in the world
 
@@ -110,26 +111,22 @@ taken_by w c x = packet_at w.links (Some (ToClient c x))
 abbrev got_by : Setup → World → ℕ → Acted
 got_by s w c = get (declared_at s c) (client_at s w c) (taken_by w c (client_at s w c).cluster)
 
-by_idle : {X : Type 0} (b : Bool) → (b ≡ true → X) → (b ≡ false → X) → X
-by_idle true f g = f refl
-by_idle false f g = g refl
-
-past : (s : Setup) (old : WorldBook) (w : World) (c : ℕ) → c < length s.clients → Stands s (kept_of old) w
+past : (s : Setup) (old : WorldView) (w : World) (c : ℕ) → c < length s.clients → Stands s (kept_of old) w
     → all_limits (happens s w (event.Get c)) ≡ limit_of (old.events + 1) old.idle old.frame_bytes
 past s old w c lt stands =
-    by_idle (got_by s w c).idle
+    by_truth (got_by s w c).idle
     (λ idle. counts s (idled (kept_of old)) (happens s w (event.Get c)) (client_waits s (kept_of old) w c (has s c lt) stands idle) ∙ shifted old.events old.idle old.frame_bytes)
     (λ busy.
     counts s _ (happens s w (event.Get c)) (client_gets s (kept_of old) w c (has s c lt) stands busy)
     ∙ none_more (kept_of old) 0 refl)
 
-pub leads_large : (s : Setup) (old new : WorldBook) (w : World) (c : ℕ) (f : RunFault) → c < length s.clients → Stands s (kept_of old) w
+pub leads_large : (s : Setup) (old new : WorldView) (w : World) (c : ℕ) (f : RunFault) → c < length s.clients → Stands s (kept_of old) w
     → ((i : ℕ) → failed f ≡ failed (fault.TooLarge i) → limit_of (old.events + 1) old.idle old.frame_bytes ≡ Some i)
     → Leads s old new (happens s w (event.Get c)) (Err f)
 leads_large s old new w c f lt stands large = record { done = tt; large = λ i is. past s old w c lt stands ∙ large i is }
 
 -- what is kept then, by whether there was a packet
-keeps : (s : Setup) (old mid : WorldBook) (w : World) (c : ℕ) (link : LinkName) (took : Bool) (a : Acted) → c < length s.clients → Stands s (kept_of old) w
+keeps : (s : Setup) (old mid : WorldView) (w : World) (c : ℕ) (link : LinkName) (took : Bool) (a : Acted) → c < length s.clients → Stands s (kept_of old) w
     → a ≡ got_by s w c → link ≡ name.ToClient c (client_at s w c).cluster → client_in old.clients c ≡ client_at s w c
     → mid ≡ record old { clients = mid.clients } → mid.clients ≡ slice_set old.clients c a.client → not took ≡ a.idle → (a.idle ≡ true → a.client ≡ client_at s w c)
     → Stands s (kept_of (after_got c link took mid)) (happens s w (event.Get c))
@@ -141,7 +138,7 @@ keeps s old mid w c link true a lt stands is link_is same rest clients idle stay
     rest ∙ ap (λ (ms : List Client). record old { clients = ms }) (clients ∙ ap (λ (b : Acted). slice_set old.clients c b.client) is) in
     let kept : kept_of (after_got c link true mid)
     ≡ client_acted (kept_of old) c (wire_node.Client c) (Some (name.ToClient c (client_at s w c).cluster)) (got_by s w c).client [] =
-    ap (λ (b : WorldBook). kept_of (after_got c link true b)) all
+    ap (λ (b : WorldView). kept_of (after_got c link true b)) all
     ∙ ap (λ (l : LinkName). kept_of (after_got c l true (record old { clients = slice_set old.clients c (got_by s w c).client }))) link_is
     ∙ ap (λ (n : ℕ). kept_of (after_got c (name.ToClient c (client_at s w c).cluster) true (record old { clients = slice_set old.clients c (got_by s w c).client; frame_bytes = n }))) zero in
     subst (λ (k : Kept). Stands s k (happens s w (event.Get c))) (sym kept) there
@@ -151,9 +148,9 @@ keeps s old mid w c link false a lt stands is link_is same rest clients idle sta
     let unchanged : mid.clients ≡ old.clients =
     clients ∙ ap (λ (m : Client). slice_set old.clients c m) (stay quiet ∙ sym same) ∙ set-get_or old.clients c no_client in
     let all : mid ≡ old = rest ∙ ap (λ (ms : List Client). record old { clients = ms }) unchanged in
-    subst (λ (b : WorldBook). Stands s (kept_of (after_got c link false b)) (happens s w (event.Get c))) (sym all) there
+    subst (λ (b : WorldView). Stands s (kept_of (after_got c link false b)) (happens s w (event.Get c))) (sym all) there
 
-pub leads_get : (s : Setup) (old mid new : WorldBook) (w : World) (c : ℕ) (site : Site) (link : LinkName) (took : Bool) (unit : Unit {0}) → IsAt s old → c < length s.clients
+pub leads_get : (s : Setup) (old mid new : WorldView) (w : World) (c : ℕ) (site : Site) (link : LinkName) (took : Bool) (unit : Unit {0}) → IsAt s old → c < length s.clients
     → Reached s w → Stands s (kept_of old) w → site.setup ≡ known_setup s.clusters s.topics → site.declared ≡ declared_at s c
     → link ≡ name.ToClient c (client_in old.clients c).cluster → IsGot site.setup.clusters site.declared c link old mid took → new ≡ after_got c link took mid
     → limit_of (old.events + 1) old.idle old.frame_bytes ≡ None → Leads s old new (happens s w (event.Get c)) (Ok unit)
@@ -169,15 +166,15 @@ leads_get s old mid new w c site link took unit h lt reached stands setup declar
     let a = get (declared_at s c) (client_in old.clients c) v in
     let a_is : a ≡ got_by s w c = ap (λ (k : Client). get (declared_at s c) k v) same in
     let kept : Stands s (kept_of new) (happens s w (event.Get c)) =
-    subst (λ (b : WorldBook). Stands s (kept_of b) (happens s w (event.Get c))) (sym after)
+    subst (λ (b : WorldView). Stands s (kept_of b) (happens s w (event.Get c))) (sym after)
     (keeps s old mid w c link took a lt stands a_is link_is same there.rest (there.client v taken) (there.idle v taken)
     (λ idle. idle_stays (declared_at s c) (client_in old.clients c) v idle ∙ same)) in
     record { done = (kept, past s old w c lt stands ∙ low); large = λ i no. absurd (ok_err unit (fault.TooLarge i) no) }
 
-pub nodes_got : (s : Setup) (old mid new : WorldBook) (names : List (List ℕ)) (d : Declared) (c : ℕ) (link : LinkName) (took : Bool) → IsAt s old → IsGot names d c link old mid took
-    → new ≡ after_got c link took mid → AreNodes s new.nodes
-nodes_got s old mid new names d c link true h g is = subst (λ (b : WorldBook). AreNodes s b.nodes) (sym is) (subst (λ (b : WorldBook). AreNodes s b.nodes) (sym g.rest) h.nodes)
-nodes_got s old mid new names d c link false h g is = subst (λ (b : WorldBook). AreNodes s b.nodes) (sym is) (subst (λ (b : WorldBook). AreNodes s b.nodes) (sym g.rest) h.nodes)
+pub nodes_got : (s : Setup) (old mid new : WorldView) (names : List (List ℕ)) (d : Declared) (c : ℕ) (link : LinkName) (took : Bool) → IsAt s old → IsGot names d c link old mid took
+    → new ≡ after_got c link took mid → AreNodes s new.brokers
+nodes_got s old mid new names d c link true h g is = subst (λ (b : WorldView). AreNodes s b.brokers) (sym is) (subst (λ (b : WorldView). AreNodes s b.brokers) (sym g.rest) h.brokers)
+nodes_got s old mid new names d c link false h g is = subst (λ (b : WorldView). AreNodes s b.brokers) (sym is) (subst (λ (b : WorldView). AreNodes s b.brokers) (sym g.rest) h.brokers)
 
-pub nodes_still : (s : Setup) (b : WorldBook) → IsAt s b → AreNodes s b.nodes
-nodes_still s b h = h.nodes
+pub nodes_still : (s : Setup) (b : WorldView) → IsAt s b → AreNodes s b.brokers
+nodes_still s b h = h.brokers

@@ -2,7 +2,7 @@
 use Rattle.std.proofs.Common.{◌≡◌, ℕ, ◌+◌, ◌<◌, ◌≤◌, Bool, true, false, ◌∙◌, ap, arith}
 use Rattle.std.proofs.lemmas.Bool.Decides.{nat_tests}
 use Rattle.std.specs.Prelude.{Option, Some, None, if◌then◌else◌, nat_lt}
-use Rattle.world_kept.specs.Standing.{limit_of}
+use Rattle.kept_laws.specs.Standing.{limit_of}
 
 abbrev pub by_tests : Bool → Bool → Option ℕ
 by_tests x y = if x then Some 2 else if y then Some 3 else None

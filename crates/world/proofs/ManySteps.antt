@@ -10,8 +10,8 @@ use Rattle.geo_base.specs.Run.{Ran, all_limits, all_settle, budget, counting_rou
 use Rattle.geo_base.specs.Setup.{Setup}
 use Rattle.geo_base.specs.World.{World}
 use Rattle.world_laws.proofs.Walks.Walk.{on_elim, on_if}
-use Rattle.world_kept.proofs.Reaching.{event_reached, halt_reached, idle_reached, round_reached, stop_reached}
-use Rattle.world_kept.specs.Reached.{Reached}
+use Rattle.kept_laws.proofs.Reaching.{event_reached, halt_reached, idle_reached, round_reached, stop_reached}
+use Rattle.kept_laws.specs.Reached.{Reached}
 
 -- ---- a run that has ended
 

@@ -9,11 +9,11 @@ use Rattle.geo_base.specs.declared.packet.Packet.{Packet}
 use Rattle.geo_base.specs.Broker.{Broker}
 use Rattle.geo_base.specs.Setup.{Setup}
 use Rattle.geo_base.specs.World.{node}
-use Rattle.broker_state.specs.Plan.{PlanBook}
+use Rattle.broker_state.specs.Plan.{PlanView}
 use Rattle.broker_plans.specs.Prepared.{IsPrepared}
 use Rattle.broker.specs.Events.{IsNodeOf, plan_at_node}
 use Rattle.broker.specs.Input.{StandsForInput}
-use Rattle.broker.specs.Node.{IsReady, BrokerBook, SameNode}
+use Rattle.broker.specs.Node.{IsReady, BrokerView, SameNode}
 use Rattle.frame_laws.specs.BytePackets.{StandsForPacket}
 use Rattle.links.specs.declared.name.LinkName.{LinkName}
 use Rattle.wire_ends.specs.declared.packet.WirePacket.{WirePacket}
@@ -21,12 +21,12 @@ use Rattle.links.specs.Each.{Both, both, neither}
 use Rattle.links.specs.Queues.{packet_on}
 use Rattle.world_laws.proofs.Induction.Frames.{at_set}
 use Rattle.world.specs.Steps.{IsSetNode, PreparesAt}
-use Rattle.world.specs.World.{AreNodes, SameWorld, WorldBook, brokers_of, kept_of, no_node, node_at}
+use Rattle.world.specs.World.{AreNodes, SameWorld, WorldView, brokers_of, kept_of, no_node, node_at}
 
-node_same : (s : Setup) (t x : ℕ) (v u : BrokerBook) → SameNode v u → IsNodeOf s t x v → IsNodeOf s t x u
+node_same : (s : Setup) (t x : ℕ) (v u : BrokerView) → SameNode v u → IsNodeOf s t x v → IsNodeOf s t x u
 node_same s t x v u same is = record { topic = same.topic ∙ is.topic; site = same.site ∙ is.site; names = same.names ∙ is.names }
 
-pub are_set : (s : Setup) (vs : List BrokerBook) (n : ℕ) (v : BrokerBook) → SameNode (node_at vs n) v → AreNodes s vs → AreNodes s (slice_set vs n v)
+pub are_set : (s : Setup) (vs : List BrokerView) (n : ℕ) (v : BrokerView) → SameNode (node_at vs n) v → AreNodes s vs → AreNodes s (slice_set vs n v)
 are_set s vs n v same h = record {
   count = length-set vs n v ∙ h.count;
   each = λ t x p q. at_set (IsNodeOf s t x) vs n (node s t x) v no_node
@@ -34,18 +34,18 @@ are_set s vs n v same h = record {
 }
 
 -- another state
-pub set_node : (vs us : List BrokerBook) (n : ℕ) (v : BrokerBook) (b : Broker) → SameNode (node_at vs n) v → v.broker ≡ b → us ≡ slice_set vs n v → IsSetNode vs us n b
+pub set_node : (vs us : List BrokerView) (n : ℕ) (v : BrokerView) (b : Broker) → SameNode (node_at vs n) v → v.broker ≡ b → us ≡ slice_set vs n v → IsSetNode vs us n b
 set_node vs us n v b same broker is = rw is (record {
-  brokers = map-set (λ (u : BrokerBook). u.broker) vs n v ∙ ap (λ (c : Broker). slice_set (brokers_of vs) n c) broker;
+  brokers = map-set (λ (u : BrokerView). u.broker) vs n v ∙ ap (λ (c : Broker). slice_set (brokers_of vs) n c) broker;
   same = λ s h. are_set s vs n v same h;
 })
 
 -- other room
-pub same_world : (old new : WorldBook) (n : ℕ) (v : BrokerBook) → SameNode (node_at old.nodes n) v → v.broker ≡ (node_at old.nodes n).broker
-    → new ≡ record old { nodes = slice_set old.nodes n v } → SameWorld old new
+pub same_world : (old new : WorldView) (n : ℕ) (v : BrokerView) → SameNode (node_at old.brokers n) v → v.broker ≡ (node_at old.brokers n).broker
+    → new ≡ record old { brokers = slice_set old.brokers n v } → SameWorld old new
 same_world old new n v same broker is = rw is (record {
-  kept = ap (λ (bs : List Broker). record (kept_of old) { brokers = bs }) (map-set_same (λ (u : BrokerBook). u.broker) old.nodes n v no_node broker);
-  nodes = λ s h. are_set s old.nodes n v same h;
+  kept = ap (λ (bs : List Broker). record (kept_of old) { brokers = bs }) (map-set_same (λ (u : BrokerView). u.broker) old.brokers n v no_node broker);
+  brokers = λ s h. are_set s old.brokers n v same h;
 })
 
 -- ---- what an event takes
@@ -58,18 +58,18 @@ pub next_is : (names : List (List ℕ)) (o : Option WirePacket) (v : Option Pack
 next_is names _ _ neither = tt
 next_is names (Some w) (Some p) (both r) = r
 
-pub prepares : (old : WorldBook) (n : ℕ) (takes : Option LinkName) (e : Event) (p : PlanBook) (r : Result (Unit {0}) Memory) (i : Option WirePacket) → i ≡ packet_on old.links takes
-    → ((v : Option Packet) → StandsForInput (node_at old.nodes n).site.clusters i v
-    → OnOk r (IsPrepared (node_at old.nodes n).site (node_at old.nodes n).broker (plan_at_node (node_at old.nodes n) e v) p))
+pub prepares : (old : WorldView) (n : ℕ) (takes : Option LinkName) (e : Event) (p : PlanView) (r : Result (Unit {0}) Memory) (i : Option WirePacket) → i ≡ packet_on old.links takes
+    → ((v : Option Packet) → StandsForInput (node_at old.brokers n).site.clusters i v
+    → OnOk r (IsPrepared (node_at old.brokers n).site (node_at old.brokers n).broker (plan_at_node (node_at old.brokers n) e v) p))
     → OnOk r (PreparesAt old n takes e p)
 prepares old n takes e p r i is f =
-    let u = node_at old.nodes n in
+    let u = node_at old.brokers n in
     flips (λ (v : Option Packet). Both (StandsForPacket u.site.clusters) (packet_on old.links takes) v) (λ v. IsPrepared u.site u.broker (plan_at_node u e v) p) r
     (λ v both. f v (subst (λ (j : Option WirePacket). StandsForInput u.site.clusters j v) (sym is) (next_is u.site.clusters (packet_on old.links takes) v both)))
 
-ready_at : (vs : List BrokerBook) (n : ℕ) (v : BrokerBook) (p : PlanBook) → n < length vs → IsReady v p → IsReady (node_at (slice_set vs n v) n) p
+ready_at : (vs : List BrokerView) (n : ℕ) (v : BrokerView) (p : PlanView) → n < length vs → IsReady v p → IsReady (node_at (slice_set vs n v) n) p
 ready_at vs n v p lt ready = rw (get_or-set_same vs n v no_node lt) ready
 
-pub ready_there : (vs us : List BrokerBook) (n : ℕ) (v : BrokerBook) (p : PlanBook) (r : Result (Unit {0}) Memory) → n < length vs → us ≡ slice_set vs n v → OnOk r (IsReady v p) → OnOk r (IsReady (node_at us n) p)
+pub ready_there : (vs us : List BrokerView) (n : ℕ) (v : BrokerView) (p : PlanView) (r : Result (Unit {0}) Memory) → n < length vs → us ≡ slice_set vs n v → OnOk r (IsReady v p) → OnOk r (IsReady (node_at us n) p)
 ready_there vs us n v p (Ok u) lt is ready = rw is (ready_at vs n v p lt ready)
 ready_there vs us n v p (Err m) lt is ready = tt

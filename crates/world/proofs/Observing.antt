@@ -11,17 +11,17 @@ use Rattle.geo_base.specs.Planned.{planned}
 use Rattle.geo_base.specs.Run.{Ran, all_limits, all_settle, budget, counting_round, ends_or, pairs, resets_of, round_of, rounds_of, run_from, settled_world, steps}
 use Rattle.geo_base.specs.Setup.{Setup}
 use Rattle.geo_base.specs.World.{World}
-use Rattle.world_kept.specs.Kept.{Kept}
-use Rattle.world_kept.specs.Standing.{Stands}
-use Rattle.world_kept.proofs.Reaching.{event_reached, idle_reached, round_reached}
-use Rattle.world_kept.specs.Reached.{Reached}
+use Rattle.kept_laws.specs.Kept.{Kept}
+use Rattle.kept_laws.specs.Standing.{Stands}
+use Rattle.kept_laws.proofs.Reaching.{event_reached, idle_reached, round_reached}
+use Rattle.kept_laws.specs.Reached.{Reached}
 use Rattle.world.specs.declared.fault.RunFault.{RunFault}
 use Rattle.world.specs.declared.fault.RunFault.TheVariants as fault
 use Rattle.world.specs.Observing.{Ends, IsRounding, IsSeen, IsSettling, Rounds, Settles, Sight, rounds_seen, run_seen, settle_seen, settling_seen, step_seen, unless_ended}
 use Rattle.world.specs.Runs.{Comes, at_world}
 use Rattle.world.specs.Settling.{EndsWithin, settled_by}
 use Rattle.world.specs.Steps.{IsLater, Leads}
-use Rattle.world.specs.World.{IsAt, SameWorld, WorldBook, kept_of}
+use Rattle.world.specs.World.{IsAt, SameWorld, WorldView, kept_of}
 use Rattle.world.proofs.ManySteps.{reaches, stays}
 use Rattle.world.proofs.SettlingSteps.{counted_stands}
 use Rattle.world.proofs.SettlingRuns.{counted, differ, ended_at, ends_here, ends_in_time, ends_later, ends_next, goes_on, resets_done, resets_ended, round_ended, round_last, round_more}
@@ -67,22 +67,22 @@ same_answer b c is = ap bool_of is
 
 -- ---- events
 
--- an event that passes no limit, and those behind it
+-- an event that passes no limit, and those after it
 settling_on : {T : Type 0} (o : Sight T) (s : Setup) (w : World) (e : Event) (es : List Event) (t : T) → all_limits (settled_by s w e) ≡ None
     → settling_seen o all_limits s (at_world w) (e ∷ es) t ≡ settling_seen o all_limits s (at_world (settled_by s w e)) es (o.settling s w e t)
 settling_on o s w e es t is =
     ap (λ (l : Option ℕ). settling_seen o all_limits s (ends_or (at_world w) (settled_by s w e) l) es (unless_ended (ends_or (at_world w) (settled_by s w e) l) t (o.settling s w e t))) is
 
-abbrev pub LeadsBy : Setup → (old new : WorldBook) → Event → Answer → Type 0
+abbrev pub LeadsBy : Setup → (old new : WorldView) → Event → Answer → Type 0
 LeadsBy s old new e a = (w : World) → Reached s w → Stands s (kept_of old) w → Leads s old new (settled_by s w e) a
 
-abbrev pub SeesBy : {T : Type 0} → Sight T → Setup → WorldBook → (old new : T) → Event → Answer → Type 0
+abbrev pub SeesBy : {T : Type 0} → Sight T → Setup → WorldView → (old new : T) → Event → Answer → Type 0
 SeesBy o s b old new e a = (w : World) → Reached s w → Stands s (kept_of b) w → OnOk a (new ≡ o.settling s w e old)
 
-abbrev pub PastSame : (old new : WorldBook) → Answer → Type 0
+abbrev pub PastSame : (old new : WorldView) → Answer → Type 0
 PastSame old new a = (n : ℕ) → a ≡ Err (fault.TooLarge n) → SameWorld old new
 
-pub each_next : {T : Type 0} (o : Sight T) (s : Setup) (now new : WorldBook) (t u : T) (es : List Event) (i : ℕ) (d : Event) (r : Ran) (all : T) (a : Answer) (unit : Unit {0}) → i < length es → a ≡ Ok unit
+pub each_next : {T : Type 0} (o : Sight T) (s : Setup) (now new : WorldView) (t u : T) (es : List Event) (i : ℕ) (d : Event) (r : Ran) (all : T) (a : Answer) (unit : Unit {0}) → i < length es → a ≡ Ok unit
     → IsSettling o s now t (drop i es) r all → LeadsBy s now new (get_or es i d) a → SeesBy o s now t u (get_or es i d) a → IsSettling o s new u (drop (i + 1) es) r all
 each_next {T} o s now new t u es i d r all a unit lt is h leads sees =
     let w = h.world in let e = get_or es i d in let led = by_ok _ a unit is (leads w h.reached h.stands).done in
@@ -97,10 +97,10 @@ each_next {T} o s now new t u es i d r all a unit lt is h leads sees =
           ∙ (sym (settling_on o s w e (drop (i + 1) es) t led.1) ∙ (sym (ap (λ (ds : List Event). settling_seen o all_limits s (at_world w) ds t) left) ∙ h.seen));
     }
 
-at_limit : (s : Setup) (new : WorldBook) (w : World) (n : ℕ) (r : Ran) → ended_at w n ≡ r → Stands s (kept_of new) w → Stands s (kept_of new) r.world × (r.ended ≡ Some n)
+at_limit : (s : Setup) (new : WorldView) (w : World) (n : ℕ) (r : Ran) → ended_at w n ≡ r → Stands s (kept_of new) w → Stands s (kept_of new) r.world × (r.ended ≡ Some n)
 at_limit s new w n r is h = subst (λ (q : Ran). Stands s (kept_of new) q.world × (q.ended ≡ Some n)) is (h, refl)
 
-pub each_ended : {T : Type 0} (o : Sight T) (s : Setup) (now new : WorldBook) (t u : T) (es : List Event) (i : ℕ) (d : Event) (r : Ran) (all : T) (a : Answer) (f : RunFault) → i < length es → a ≡ Err f
+pub each_ended : {T : Type 0} (o : Sight T) (s : Setup) (now new : WorldView) (t u : T) (es : List Event) (i : ℕ) (d : Event) (r : Ran) (all : T) (a : Answer) (f : RunFault) → i < length es → a ≡ Err f
     → IsSettling o s now t (drop i es) r all → LeadsBy s now new (get_or es i d) a → PastSame now new a → Settles o s new u r all (Err f)
 each_ended o s now new t u es i d r all a f lt is h leads same =
     let w = h.world in let e = get_or es i d in
@@ -109,7 +109,7 @@ each_ended o s now new t u es i d r all a f lt is h leads same =
     let still : (n : ℕ) → a ≡ Err (fault.TooLarge n) → Stands s (kept_of new) w = λ n past. subst (λ (k : Kept). Stands s k w) (sym (same n past).kept) h.stands in
     record { done = tt; large = λ n past. at_limit s new w n r (ended n (is ∙ past)) (still n (is ∙ past)) }
 
-pub each_done : {T : Type 0} (o : Sight T) (s : Setup) (now : WorldBook) (t : T) (es : List Event) (i : ℕ) (r : Ran) (all : T) (u : Unit {0}) → length es ≤ i → IsSettling o s now t (drop i es) r all
+pub each_done : {T : Type 0} (o : Sight T) (s : Setup) (now : WorldView) (t : T) (es : List Event) (i : ℕ) (r : Ran) (all : T) (u : Unit {0}) → length es ≤ i → IsSettling o s now t (drop i es) r all
     → Settles o s now t r all (Ok u)
 each_done o s now t es i r all u past h = record {
   done = subst (λ (ds : List Event). IsSettling o s now t ds r all) (drop_all i es past) h;
@@ -118,13 +118,13 @@ each_done o s now t es i r all u past h = record {
 
 -- ---- a round
 
-abbrev pub SettlesAll : {T : Type 0} → Sight T → Setup → (old mid : WorldBook) → (t u : T) → List Event → Answer → Type 0
+abbrev pub SettlesAll : {T : Type 0} → Sight T → Setup → (old mid : WorldView) → (t u : T) → List Event → Answer → Type 0
 SettlesAll {T} o s old mid t u es a = (q : Ran) (all : T) → IsSettling o s old t es q all → Settles o s mid u q all a
 
 abbrev all_of : {T : Type 0} → Sight T → Setup → World → T → List Event → T
 all_of o s w t es = settling_seen o all_limits s (at_world w) es t
 
-begins : {T : Type 0} (o : Sight T) (s : Setup) (b : WorldBook) (w : World) (t : T) (es fs : List Event) → es ≡ fs → Reached s w → Stands s (kept_of b) w
+begins : {T : Type 0} (o : Sight T) (s : Setup) (b : WorldView) (w : World) (t : T) (es fs : List Event) → es ≡ fs → Reached s w → Stands s (kept_of b) w
     → IsSettling o s b t es (all_settle all_limits s (at_world w) fs) (all_of o s w t fs)
 begins o s b w t es fs is reached stands = record {
   world = w;
@@ -135,20 +135,20 @@ begins o s b w t es fs is reached stands = record {
 }
 
 -- where its events end well, the machine is at a world for which this one stands, and they are seen
-record IsRoundDone {T : Type 0} (o : Sight T) (s : Setup) (mid : WorldBook) (w : World) (t u : T) (es : List Event) : Type 0 where
+record IsRoundDone {T : Type 0} (o : Sight T) (s : Setup) (mid : WorldView) (w : World) (t u : T) (es : List Event) : Type 0 where
   world : World
   reached : Reached s world
   stands : Stands s (kept_of mid) world
   comes : all_settle all_limits s (at_world w) es ≡ at_world world
   seen : u ≡ all_of o s w t es
 
-all_done : {T : Type 0} (o : Sight T) (s : Setup) (old mid : WorldBook) (w : World) (t u : T) (es fs : List Event) (a : Answer) (unit : Unit {0}) → es ≡ fs → a ≡ Ok unit → Reached s w
+all_done : {T : Type 0} (o : Sight T) (s : Setup) (old mid : WorldView) (w : World) (t u : T) (es fs : List Event) (a : Answer) (unit : Unit {0}) → es ≡ fs → a ≡ Ok unit → Reached s w
     → Stands s (kept_of old) w → SettlesAll o s old mid t u es a → IsRoundDone o s mid w t u fs
 all_done o s old mid w t u es fs a unit is ok reached stands sees =
     let h = by_ok _ a unit ok (sees (all_settle all_limits s (at_world w) fs) (all_of o s w t fs) (begins o s old w t es fs is reached stands)).done in
     record { world = h.world; reached = h.reached; stands = h.stands; comes = sym h.comes; seen = h.seen }
 
--- what is seen of a round, and of those behind it
+-- what is seen of a round, and of those after it
 abbrev seen_behind : {T : Type 0} → Sight T → Setup → ℕ → World → T → Ran → T
 seen_behind {T} o s more w u q = elim (is_some q.ended || (q.world.events == w.events)) as (λ b. T) [ true ↦ u | false ↦ rounds_seen more o all_limits s (counting_round q) u ]
 
@@ -177,7 +177,7 @@ last_seen o s more w v t is quiet =
     behind o s more w v t is ∙ on_true (v.events == w.events) u (rounds_seen more o all_limits s (at_world (counted v)) u) (eq-eqb v.events w.events quiet)
 
 -- a round that did something
-pub round_counted : {T : Type 0} (o : Sight T) (s : Setup) (old mid new : WorldBook) (t u : T) (es : List Event) (r : Ran) (all : T) (a : Answer) (unit : Unit {0}) → es ≡ round_of (pairs s) → a ≡ Ok unit
+pub round_counted : {T : Type 0} (o : Sight T) (s : Setup) (old mid new : WorldView) (t u : T) (es : List Event) (r : Ran) (all : T) (a : Answer) (unit : Unit {0}) → es ≡ round_of (pairs s) → a ≡ Ok unit
     → SettlesAll o s old mid t u es a → IsLater old mid → (mid.events ≡ old.events → ⊥) → new ≡ record mid { rounds = mid.rounds + 1 } → IsRounding o s old t r all
     → Rounds o s new u r all (Ok true)
 round_counted {T} o s old mid new t u es r all a unit is ok sees later busy counts h = record {
@@ -204,7 +204,7 @@ round_counted {T} o s old mid new t u es r all a unit is ok sees later busy coun
         }
 
 -- one that did nothing
-pub round_still : {T : Type 0} (o : Sight T) (s : Setup) (old mid : WorldBook) (t u : T) (es : List Event) (r : Ran) (all : T) (a : Answer) (unit : Unit {0}) → es ≡ round_of (pairs s) → a ≡ Ok unit
+pub round_still : {T : Type 0} (o : Sight T) (s : Setup) (old mid : WorldView) (t u : T) (es : List Event) (r : Ran) (all : T) (a : Answer) (unit : Unit {0}) → es ≡ round_of (pairs s) → a ≡ Ok unit
     → SettlesAll o s old mid t u es a → mid.events ≡ old.events → IsRounding o s old t r all → Rounds o s mid u r all (Ok false)
 round_still {T} o s old mid t u es r all a unit is ok sees quiet h = record {
   more = λ yes. absurd (false≢true (same_answer false true yes));
@@ -226,7 +226,7 @@ round_still {T} o s old mid t u es r all a unit is ok sees quiet h = record {
         }
 
 -- one that came to a limit
-pub round_past : {T : Type 0} (o : Sight T) (s : Setup) (old mid : WorldBook) (t u : T) (es : List Event) (r : Ran) (all : T) (a : Answer) (f : RunFault) → es ≡ round_of (pairs s) → a ≡ Err f
+pub round_past : {T : Type 0} (o : Sight T) (s : Setup) (old mid : WorldView) (t u : T) (es : List Event) (r : Ran) (all : T) (a : Answer) (f : RunFault) → es ≡ round_of (pairs s) → a ≡ Err f
     → SettlesAll o s old mid t u es a → IsRounding o s old t r all → Rounds o s mid u r all (Err f)
 round_past {T} o s old mid t u es r all a f is err sees h = record {
   more = λ yes. absurd (succeeds true f yes);
@@ -244,11 +244,11 @@ round_past {T} o s old mid t u es r all a f is err sees h = record {
 
 -- ---- rounds
 
-pub rounds_done : {T : Type 0} (o : Sight T) (s : Setup) (new : WorldBook) (t : T) (r : Ran) (all : T) (a : Result Bool RunFault) (n : ℕ) → a ≡ Ok false → Rounds o s new t r all a
+pub rounds_done : {T : Type 0} (o : Sight T) (s : Setup) (new : WorldView) (t : T) (r : Ran) (all : T) (a : Result Bool RunFault) (n : ℕ) → a ≡ Ok false → Rounds o s new t r all a
     → Ends s new t r all (Ok n)
 rounds_done o s new t r all a n is h = record { done = h.done is; large = λ i past. absurd (fails n (fault.TooLarge i) past) }
 
-pub rounds_past : {T : Type 0} (o : Sight T) (s : Setup) (new : WorldBook) (t : T) (r : Ran) (all : T) (a : Result Bool RunFault) (f : RunFault) → a ≡ Err f → Rounds o s new t r all a
+pub rounds_past : {T : Type 0} (o : Sight T) (s : Setup) (new : WorldView) (t : T) (r : Ran) (all : T) (a : Result Bool RunFault) (f : RunFault) → a ≡ Err f → Rounds o s new t r all a
     → Ends {E = ℕ} s new t r all (Err f)
 rounds_past o s new t r all a f is h = record { done = tt; large = λ n past. h.large n (is ∙ same_fault ℕ Bool f (fault.TooLarge n) past) }
 
@@ -263,7 +263,7 @@ settled_seen o s w v t is =
     ∙ ap (λ (r : Ran). rounds_seen (suc (budget s w)) o all_limits s r u) is
 
 -- where no reset came to a limit, rounds begin
-pub rounds_begin : {T : Type 0} (o : Sight T) (s : Setup) (old mid : WorldBook) (w : World) (t from u : T) (es : List Event) (a : Answer) (unit : Unit {0}) → es ≡ resets_of (pairs s) → a ≡ Ok unit
+pub rounds_begin : {T : Type 0} (o : Sight T) (s : Setup) (old mid : WorldView) (w : World) (t from u : T) (es : List Event) (a : Answer) (unit : Unit {0}) → es ≡ resets_of (pairs s) → a ≡ Ok unit
     → from ≡ o.settles s w t → SettlesAll o s old mid from u es a → IsLater old mid → Reached s w → Stands s (kept_of old) w
     → IsRounding o s mid u (settled_world all_limits s (at_world w)) (settle_seen o all_limits s (at_world w) t)
 rounds_begin {T} o s old mid w t from u es a unit is ok first sees later reached stands =
@@ -280,7 +280,7 @@ rounds_begin {T} o s old mid w t from u es a unit is ok first sees later reached
           ∙ sym (settled_seen o s w v t d.comes);
     }
 
-pub resets_past : {T : Type 0} (o : Sight T) (s : Setup) (old mid : WorldBook) (w : World) (t u : T) (es : List Event) (a : Answer) (f : RunFault) → es ≡ resets_of (pairs s) → a ≡ Err f
+pub resets_past : {T : Type 0} (o : Sight T) (s : Setup) (old mid : WorldView) (w : World) (t u : T) (es : List Event) (a : Answer) (f : RunFault) → es ≡ resets_of (pairs s) → a ≡ Err f
     → SettlesAll o s old mid t u es a → Reached s w → Stands s (kept_of old) w → Comes {T = ℕ} s mid (settled_world all_limits s (at_world w)) (Err f)
 resets_past o s old mid w t u es a f is err sees reached stands = record {
   done = tt;
@@ -298,16 +298,16 @@ pub settled_reached : (s : Setup) (w : World) → Reached s w → Reached s (set
 settled_reached s w reached = subst (λ (r : Ran). Reached s r.world) (settle_step s w) (reaches s (at_world w) step.Settle reached)
 
 -- and where they end
-pub ends_come : {T E : Type 0} (s : Setup) (new : WorldBook) (t : T) (r : Ran) (all : T) (a : Result E RunFault) → Ends s new t r all a → Comes s new r a
+pub ends_come : {T E : Type 0} (s : Setup) (new : WorldView) (t : T) (r : Ran) (all : T) (a : Result E RunFault) → Ends s new t r all a → Comes s new r a
 ends_come {T} {E} s new t r all (Ok n) h = record { done = (h.done.stands, h.done.going); large = h.large }
 ends_come {T} {E} s new t r all (Err f) h = record { done = tt; large = h.large }
 
 -- ---- a step
 
-stands_same : (s : Setup) (old new : WorldBook) (w : World) → SameWorld old new → Stands s (kept_of old) w → Stands s (kept_of new) w
+stands_same : (s : Setup) (old new : WorldView) (w : World) → SameWorld old new → Stands s (kept_of old) w → Stands s (kept_of new) w
 stands_same s old new w same stands = subst (λ (k : Kept). Stands s k w) (sym same.kept) stands
 
-ends : (s : Setup) (new : WorldBook) (w next : World) (n : ℕ) → all_limits next ≡ Some n → Stands s (kept_of new) w
+ends : (s : Setup) (new : WorldView) (w next : World) (n : ℕ) → all_limits next ≡ Some n → Stands s (kept_of new) w
     → Stands s (kept_of new) (ends_or (at_world w) next (all_limits next)).world × ((ends_or (at_world w) next (all_limits next)).ended ≡ Some n)
 ends s new w next n is stands =
     subst (λ (l : Option ℕ). Stands s (kept_of new) (ends_or (at_world w) next l).world × ((ends_or (at_world w) next l).ended ≡ Some n)) (sym is) (stands, refl)
@@ -315,7 +315,7 @@ ends s new w next n is stands =
 abbrev goes_to : World → World → Ran
 goes_to w next = ends_or (at_world w) next (all_limits next)
 
-comes_by : (s : Setup) (old new : WorldBook) (w next : World) (a : Answer) → Stands s (kept_of old) w → Leads s old new next a → PastSame old new a → Comes s new (goes_to w next) a
+comes_by : (s : Setup) (old new : WorldView) (w next : World) (a : Answer) → Stands s (kept_of old) w → Leads s old new next a → PastSame old new a → Comes s new (goes_to w next) a
 comes_by s old new w next (Ok unit) stands leads same = record {
   done = subst (λ (l : Option ℕ). Stands s (kept_of new) (ends_or (at_world w) next l).world × ((ends_or (at_world w) next l).ended ≡ None)) (sym leads.done.1) (leads.done.0, refl);
   large = λ n past. absurd (fails unit (fault.TooLarge n) past);
@@ -325,44 +325,44 @@ comes_by s old new w next (Err f) stands leads same = record {
   large = λ n past. ends s new w next n (leads.large n past) (stands_same s old new w (same n past) stands);
 }
 
-seen_by : {T : Type 0} (s : Setup) (new : WorldBook) (w next : World) (t u v : T) (a : Answer) → Comes s new (goes_to w next) a → OnOk a (v ≡ u) → OnOk a (v ≡ unless_ended (goes_to w next) t u)
+seen_by : {T : Type 0} (s : Setup) (new : WorldView) (w next : World) (t u v : T) (a : Answer) → Comes s new (goes_to w next) a → OnOk a (v ≡ u) → OnOk a (v ≡ unless_ended (goes_to w next) t u)
 seen_by {T} s new w next t u v (Ok unit) comes seen =
     seen ∙ sym (ap (λ (l : Option ℕ). unless_ended (record { world = (goes_to w next).world; ended = l }) t u) comes.done.1)
 seen_by {T} s new w next t u v (Err f) comes seen = tt
 
-pub plain_comes : (s : Setup) (old new : WorldBook) (w : World) (k : Step) (e : Event) (a : Answer) → k ≡ step.Plain e → Stands s (kept_of old) w → Leads s old new (happens s w e) a → PastSame old new a
+pub plain_comes : (s : Setup) (old new : WorldView) (w : World) (k : Step) (e : Event) (a : Answer) → k ≡ step.Plain e → Stands s (kept_of old) w → Leads s old new (happens s w e) a → PastSame old new a
     → Comes s new (steps all_limits s (at_world w) k) a
 unfolding steps
 plain_comes s old new w k e a is stands leads same =
     subst (λ (j : Step). Comes s new (steps all_limits s (at_world w) j) a) (sym is) (comes_by s old new w (happens s w e) a stands leads same)
 
-pub plain_seen : {T : Type 0} (o : Sight T) (s : Setup) (old new : WorldBook) (w : World) (k : Step) (e : Event) (t u : T) (a : Answer) → k ≡ step.Plain e → Stands s (kept_of old) w
+pub plain_seen : {T : Type 0} (o : Sight T) (s : Setup) (old new : WorldView) (w : World) (k : Step) (e : Event) (t u : T) (a : Answer) → k ≡ step.Plain e → Stands s (kept_of old) w
     → Leads s old new (happens s w e) a → PastSame old new a → OnOk a (u ≡ o.event s w e t) → OnOk a (u ≡ step_seen o all_limits s (at_world w) k t)
 unfolding steps step_seen
 plain_seen {T} o s old new w k e t u a is stands leads same seen =
     subst (λ (j : Step). OnOk a (u ≡ step_seen o all_limits s (at_world w) j t)) (sym is)
     (seen_by s new w (happens s w e) t (o.event s w e t) u a (comes_by s old new w (happens s w e) a stands leads same) seen)
 
-pub halt_comes : (s : Setup) (old new : WorldBook) (w : World) (k : Step) (n : ℕ) (e : Event) (a : Answer) → k ≡ step.Halt n e → Stands s (kept_of old) w
+pub halt_comes : (s : Setup) (old new : WorldView) (w : World) (k : Step) (n : ℕ) (e : Event) (a : Answer) → k ≡ step.Halt n e → Stands s (kept_of old) w
     → Leads s old new (halts_planned s w n (planned s w e)) a → PastSame old new a → Comes s new (steps all_limits s (at_world w) k) a
 unfolding steps
 halt_comes s old new w k n e a is stands leads same =
     subst (λ (j : Step). Comes s new (steps all_limits s (at_world w) j) a) (sym is) (comes_by s old new w (halts_planned s w n (planned s w e)) a stands leads same)
 
-pub halt_seen : {T : Type 0} (o : Sight T) (s : Setup) (old new : WorldBook) (w : World) (k : Step) (n : ℕ) (e : Event) (t u : T) (a : Answer) → k ≡ step.Halt n e → Stands s (kept_of old) w
+pub halt_seen : {T : Type 0} (o : Sight T) (s : Setup) (old new : WorldView) (w : World) (k : Step) (n : ℕ) (e : Event) (t u : T) (a : Answer) → k ≡ step.Halt n e → Stands s (kept_of old) w
     → Leads s old new (halts_planned s w n (planned s w e)) a → PastSame old new a → OnOk a (u ≡ o.halt s w n e t) → OnOk a (u ≡ step_seen o all_limits s (at_world w) k t)
 unfolding steps step_seen
 halt_seen {T} o s old new w k n e t u a is stands leads same seen =
     subst (λ (j : Step). OnOk a (u ≡ step_seen o all_limits s (at_world w) j t)) (sym is)
     (seen_by s new w (halts_planned s w n (planned s w e)) t (o.halt s w n e t) u a (comes_by s old new w (halts_planned s w n (planned s w e)) a stands leads same) seen)
 
-pub stop_comes : (s : Setup) (old new : WorldBook) (w : World) (k : Step) (a : Answer) → k ≡ step.Stop → Stands s (kept_of old) w → Leads s old new (stops s w) a → PastSame old new a
+pub stop_comes : (s : Setup) (old new : WorldView) (w : World) (k : Step) (a : Answer) → k ≡ step.Stop → Stands s (kept_of old) w → Leads s old new (stops s w) a → PastSame old new a
     → Comes s new (steps all_limits s (at_world w) k) a
 unfolding steps
 stop_comes s old new w k a is stands leads same =
     subst (λ (j : Step). Comes s new (steps all_limits s (at_world w) j) a) (sym is) (comes_by s old new w (stops s w) a stands leads same)
 
-pub stop_seen : {T : Type 0} (o : Sight T) (s : Setup) (old new : WorldBook) (w : World) (k : Step) (t u : T) (a : Answer) → k ≡ step.Stop → Stands s (kept_of old) w
+pub stop_seen : {T : Type 0} (o : Sight T) (s : Setup) (old new : WorldView) (w : World) (k : Step) (t u : T) (a : Answer) → k ≡ step.Stop → Stands s (kept_of old) w
     → Leads s old new (stops s w) a → PastSame old new a → OnOk a (u ≡ o.stop s w t) → OnOk a (u ≡ step_seen o all_limits s (at_world w) k t)
 unfolding steps step_seen
 stop_seen {T} o s old new w k t u a is stands leads same seen =
@@ -370,13 +370,13 @@ stop_seen {T} o s old new w k t u a is stands leads same seen =
     (seen_by s new w (stops s w) t (o.stop s w t) u a (comes_by s old new w (stops s w) a stands leads same) seen)
 
 -- settling, however many rounds it took
-pub settled_comes : (s : Setup) (new : WorldBook) (w : World) (k : Step) (rounds : ℕ) (unit : Unit {0}) → k ≡ step.Settle
+pub settled_comes : (s : Setup) (new : WorldView) (w : World) (k : Step) (rounds : ℕ) (unit : Unit {0}) → k ≡ step.Settle
     → Comes {T = ℕ} s new (settled_world all_limits s (at_world w)) (Ok rounds) → Comes s new (steps all_limits s (at_world w) k) (Ok unit)
 unfolding steps
 settled_comes s new w k rounds unit is comes =
     subst (λ (j : Step). Comes s new (steps all_limits s (at_world w) j) (Ok unit)) (sym is) (record { done = comes.done; large = λ n past. absurd (fails unit (fault.TooLarge n) past) })
 
-pub settled_ends : (s : Setup) (new : WorldBook) (w : World) (k : Step) (f : RunFault) → k ≡ step.Settle
+pub settled_ends : (s : Setup) (new : WorldView) (w : World) (k : Step) (f : RunFault) → k ≡ step.Settle
     → Comes {T = ℕ} s new (settled_world all_limits s (at_world w)) (Err f) → Comes {T = Unit {0}} s new (steps all_limits s (at_world w) k) (Err f)
 unfolding steps
 settled_ends s new w k f is comes =
@@ -394,25 +394,25 @@ step_settled_seen {T} o s w k t u is going seen =
 -- ---- steps
 
 -- what is left from here comes to what all comes to, and who sees it has seen all
-pub record GoesOn {T : Type 0} (o : Sight T) (s : Setup) (old now : WorldBook) (t u : T) (all left : List Step) : Type 0 where
+pub record GoesOn {T : Type 0} (o : Sight T) (s : Setup) (old now : WorldView) (t u : T) (all left : List Step) : Type 0 where
   pub at : IsAt s now
   pub comes : (w : World) → Reached s w → Stands s (kept_of old) w
       → (v : World) × Reached s v × Stands s (kept_of now) v × (run_from all_limits s (at_world w) all ≡ run_from all_limits s (at_world v) left)
       × (run_seen o all_limits s (at_world v) left u ≡ run_seen o all_limits s (at_world w) all t)
 
-pub first_of : {T : Type 0} (o : Sight T) (s : Setup) (b : WorldBook) (t : T) (all : List Step) → IsAt s b → GoesOn o s b b t t all all
+pub first_of : {T : Type 0} (o : Sight T) (s : Setup) (b : WorldView) (t : T) (all : List Step) → IsAt s b → GoesOn o s b b t t all all
 first_of o s b t all h = record { at = h; comes = λ w reached stands. (w, reached, stands, refl, refl) }
 
 ran_is : (r : Ran) → r.ended ≡ None → r ≡ at_world r.world
 ran_is r is = ap (λ (o : Option ℕ). record { world = r.world; ended = o }) is
 
-abbrev pub ComesBy : Setup → (now new : WorldBook) → Step → Answer → Type 0
+abbrev pub ComesBy : Setup → (now new : WorldView) → Step → Answer → Type 0
 ComesBy s now new k a = (w : World) → Reached s w → Stands s (kept_of now) w → Comes s new (steps all_limits s (at_world w) k) a
 
-abbrev pub SeenBy : {T : Type 0} → Sight T → Setup → WorldBook → (old new : T) → Step → Answer → Type 0
+abbrev pub SeenBy : {T : Type 0} → Sight T → Setup → WorldView → (old new : T) → Step → Answer → Type 0
 SeenBy o s now old new k a = (w : World) → Reached s w → Stands s (kept_of now) w → OnOk a (new ≡ step_seen o all_limits s (at_world w) k old)
 
-pub goes_on_by : {T : Type 0} (o : Sight T) (s : Setup) (old now new : WorldBook) (t mid u : T) (all left : List Step) (k : Step) (unit : Unit {0}) → GoesOn o s old now t mid all (k ∷ left)
+pub goes_on_by : {T : Type 0} (o : Sight T) (s : Setup) (old now new : WorldView) (t mid u : T) (all left : List Step) (k : Step) (unit : Unit {0}) → GoesOn o s old now t mid all (k ∷ left)
     → ComesBy s now new k (Ok unit) → SeenBy o s now mid u k (Ok unit) → IsAt s new → GoesOn o s old new t u all left
 goes_on_by {T} o s old now new t mid u all left k unit goes step seen at = record {
   at = at;
@@ -428,11 +428,11 @@ goes_on_by {T} o s old now new t mid u all left k unit goes step seen at = recor
       );
 }
 
-pub all_seen : {T : Type 0} (o : Sight T) (s : Setup) (old now : WorldBook) (t u : T) (all : List Step) (w : World) → GoesOn o s old now t u all [] → Reached s w → Stands s (kept_of old) w
+pub all_seen : {T : Type 0} (o : Sight T) (s : Setup) (old now : WorldView) (t u : T) (all : List Step) (w : World) → GoesOn o s old now t u all [] → Reached s w → Stands s (kept_of old) w
     → u ≡ run_seen o all_limits s (at_world w) all t
 all_seen o s old now t u all w goes reached stands = (goes.comes w reached stands).4
 
-pub ends_there : {T : Type 0} (o : Sight T) (s : Setup) (old now new : WorldBook) (t u : T) (all left : List Step) (k : Step) (f : RunFault) (w : World) → GoesOn o s old now t u all (k ∷ left)
+pub ends_there : {T : Type 0} (o : Sight T) (s : Setup) (old now new : WorldView) (t u : T) (all left : List Step) (k : Step) (f : RunFault) (w : World) → GoesOn o s old now t u all (k ∷ left)
     → ComesBy s now new k (Err f) → Reached s w → Stands s (kept_of old) w → Comes {T = Unit {0}} s new (run_from all_limits s (at_world w) all) (Err f)
 ends_there o s old now new t u all left k f w goes step reached stands =
     let from = goes.comes w reached stands in let v : World = from.0 in let r : Ran = steps all_limits s (at_world v) k in
@@ -460,5 +460,5 @@ wanting = Err fault.Memory
 pub past_wants : (X : Type 0) (n : ℕ) → wanting ≡ Err (fault.TooLarge n) → X
 past_wants X n is = absurd (subst (λ (a : Answer). IsWant a) is tt)
 
-pub wants_come : {T : Type 0} (s : Setup) (new : WorldBook) (r : Ran) → Comes {T = T} s new r (Err fault.Memory)
+pub wants_come : {T : Type 0} (s : Setup) (new : WorldView) (r : Ran) → Comes {T = T} s new r (Err fault.Memory)
 wants_come {T} s new r = record { done = tt; large = λ n is. absurd (subst (λ (a : Result T RunFault). IsWant a) is tt) }

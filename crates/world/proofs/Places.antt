@@ -1,5 +1,5 @@
 -- What an event of a broker needs of the world that it is done in: whose it is, and the numbers that rise.
-use Rattle.std.proofs.Common.{◌≡◌, ℕ, ◌+◌, ◌*◌, ◌^◌, ◌<◌, ◌≤◌, Bool, true, List, [], ◌∷◌, length, refl, sym, ◌∙◌, ap, subst, arith}
+use Rattle.std.proofs.Common.{◌≡◌, ℕ, ◌+◌, ◌*◌, ◌^◌, ◌<◌, ◌≤◌, true, List, [], ◌∷◌, length, refl, sym, ◌∙◌, ap, subst, arith}
 use Rattle.std.proofs.lemmas.Bool.Decides.{nat_tests}
 use Rattle.std.proofs.lemmas.List.{get_or-map, length-map}
 use Rattle.std.specs.Prelude.{Option, IfSome, nat_lt, ◌&&◌, slice_index, slice_index_or}
@@ -17,23 +17,24 @@ use Rattle.geo_base.specs.Topic.{next_marker}
 use Rattle.geo_base.specs.World.{World, broker_at}
 use Rattle.script_text.specs.Scenario.{IsEvent}
 use Rattle.broker.specs.Events.{HasNextMarker, IsClients, IsHere, IsLink, IsNodeOf, IsOfNode, IsOfTopic, MarkerRises, NumbersRise, SeekRises, SessionRises, name_at}
-use Rattle.broker.specs.Node.{BrokerBook}
+use Rattle.broker.specs.Node.{BrokerView}
 use Rattle.links.proofs.Simulated.{stamp_is}
 use Rattle.links.specs.declared.name.LinkName.{LinkName}
 use Rattle.links.specs.Names.{taken_name}
 use Rattle.links.specs.Queues.{packet_on, stamp_of}
-use Rattle.world_kept.specs.Events.{IsBrokers, cluster_of, node_of, topic_of}
-use Rattle.world_kept.specs.Kept.{Kept, stamp_at}
-use Rattle.world_kept.specs.Standing.{Stands}
+use Rattle.kept_laws.specs.Events.{IsBrokers, cluster_of, node_of, topic_of}
+use Rattle.kept_laws.specs.Kept.{Kept, stamp_at}
+use Rattle.kept_laws.specs.Standing.{Stands}
 use Rattle.world_laws.proofs.Counters.Bounds.{packet_within}
 use Rattle.world_laws.proofs.Merges.ClientRoams.{all_index}
-use Rattle.world_kept.proofs.Reaching.{ground}
+use Rattle.kept_laws.proofs.Reaching.{ground}
 use Rattle.world_laws.proofs.Replicating.Sizes.{node_lt}
 use Rattle.world_laws.proofs.Walks.Walk.{on_if}
 use Rattle.world_laws.specs.Reached.{IsGround}
 use Rattle.world_laws.specs.Starts.{most_at_start}
 use Rattle.world_laws.specs.Within.{BrokerWithin}
-use Rattle.world.specs.World.{IsAt, IsWithin, SameWorld, WorldBook, brokers_of, kept_of, no_node, node_at}
+use Rattle.world.specs.World.{IsAt, IsWithin, SameWorld, WorldView, brokers_of, kept_of, no_node, node_at}
+use Rattle.geo_base.proofs.Bools.{and_of_both}
 
 -- ---- numbers in range
 
@@ -75,14 +76,11 @@ cluster_in s (event.Reconnect c) b h = absurd b
 pub below : (m n : ℕ) → m < n → nat_lt m n ≡ true
 below m n h = grind (arith, nat_tests, h)
 
-both_true : (a b : Bool) → a ≡ true → b ≡ true → (a && b) ≡ true
-both_true a b p q = rw (p, q) refl
-
 has_two : (m n i j : ℕ) → m < n → i < j → (nat_lt m n && nat_lt i j) ≡ true
-has_two m n i j h k = both_true (nat_lt m n) (nat_lt i j) (below m n h) (below i j k)
+has_two m n i j h k = and_of_both (nat_lt m n) (nat_lt i j) (below m n h) (below i j k)
 
 has_three : (m n i j k l : ℕ) → m < n → i < j → k < l → ((nat_lt m n && nat_lt i j) && nat_lt k l) ≡ true
-has_three m n i j k l p q r = both_true (nat_lt m n && nat_lt i j) (nat_lt k l) (has_two m n i j p q) (below k l r)
+has_three m n i j k l p q r = and_of_both (nat_lt m n && nat_lt i j) (nat_lt k l) (has_two m n i j p q) (below k l r)
 
 pub in_range_is : (s : Setup) (e : Event) → IsEvent s e → in_range s e ≡ true
 in_range_is s (event.Serve x c) h = has_two x (length s.clusters) c (length s.clients) h.0 h.1
@@ -114,7 +112,7 @@ of_topic s (event.Go c) = tt
 of_topic s (event.Get c) = tt
 of_topic s (event.Reconnect c) = tt
 
-pub topic_below : (s : Setup) (b : WorldBook) (e : Event) (t : ℕ) → IsAt s b → IsBrokers e → IsEvent s e → t ≡ topic_of s e → t < length s.topics
+pub topic_below : (s : Setup) (b : WorldView) (e : Event) (t : ℕ) → IsAt s b → IsBrokers e → IsEvent s e → t ≡ topic_of s e → t < length s.topics
 topic_below s b e t h brokers here is = rw is (topic_in s e h.setup brokers here)
 
 pub cluster_below : (s : Setup) (e : Event) (x : ℕ) → IsBrokers e → IsEvent s e → x ≡ cluster_of e → x < length s.clusters
@@ -125,28 +123,28 @@ node_in s e scripted b h = node_lt s (topic_of s e) (cluster_of e) (topic_in s e
 
 -- ---- the broker of an event
 
-pub broker_is : (vs : List BrokerBook) (n : ℕ) → n < length vs → slice_index_or (brokers_of vs) n no_broker ≡ (node_at vs n).broker
-broker_is vs n h = get_or-map (λ (v : BrokerBook). v.broker) vs n no_node no_broker h
+pub broker_is : (vs : List BrokerView) (n : ℕ) → n < length vs → slice_index_or (brokers_of vs) n no_broker ≡ (node_at vs n).broker
+broker_is vs n h = get_or-map (λ (v : BrokerView). v.broker) vs n no_node no_broker h
 
-pub node_below : (s : Setup) (b : WorldBook) (e : Event) → IsAt s b → IsBrokers e → IsEvent s e → node_of s e < length b.nodes
-node_below s b e h brokers here = subst (λ (m : ℕ). node_of s e < m) (sym h.nodes.count) (node_in s e h.setup brokers here)
+pub node_below : (s : Setup) (b : WorldView) (e : Event) → IsAt s b → IsBrokers e → IsEvent s e → node_of s e < length b.brokers
+node_below s b e h brokers here = subst (λ (m : ℕ). node_of s e < m) (sym h.brokers.count) (node_in s e h.setup brokers here)
 
-pub node_is : (s : Setup) (b : WorldBook) (e : Event) → IsAt s b → IsBrokers e → IsEvent s e → IsNodeOf s (topic_of s e) (cluster_of e) (node_at b.nodes (node_of s e))
-node_is s b e h brokers here = h.nodes.each (topic_of s e) (cluster_of e) (topic_in s e h.setup brokers here) (cluster_in s e brokers here)
+pub node_is : (s : Setup) (b : WorldView) (e : Event) → IsAt s b → IsBrokers e → IsEvent s e → IsNodeOf s (topic_of s e) (cluster_of e) (node_at b.brokers (node_of s e))
+node_is s b e h brokers here = h.brokers.each (topic_of s e) (cluster_of e) (topic_in s e h.setup brokers here) (cluster_in s e brokers here)
 
-pub stands_at : (s : Setup) (b : WorldBook) (w : World) (n : ℕ) → Stands s (kept_of b) w → n < length b.nodes → (node_at b.nodes n).broker ≡ broker_at w n
-stands_at s b w n h lt = sym (broker_is b.nodes n lt) ∙ ap (λ (bs : List Broker). slice_index_or bs n no_broker) h.brokers
+pub stands_at : (s : Setup) (b : WorldView) (w : World) (n : ℕ) → Stands s (kept_of b) w → n < length b.brokers → (node_at b.brokers n).broker ≡ broker_at w n
+stands_at s b w n h lt = sym (broker_is b.brokers n lt) ∙ ap (λ (bs : List Broker). slice_index_or bs n no_broker) h.brokers
 
-here_is : (s : Setup) (t x : ℕ) (v : BrokerBook) → IsNodeOf s t x v → IsHere v t x
+here_is : (s : Setup) (t x : ℕ) (v : BrokerView) → IsNodeOf s t x v → IsHere v t x
 here_is s t x v is = record { topic = sym is.topic; cluster = sym (ap (λ (h : Site). h.own) is.site) }
 
-link_is : (s : Setup) (t x y : ℕ) (v : BrokerBook) → IsNodeOf s t x v → y < length s.clusters → IsLink v t x y
+link_is : (s : Setup) (t x y : ℕ) (v : BrokerView) → IsNodeOf s t x v → y < length s.clusters → IsLink v t x y
 link_is s t x y v is lt = record { here = here_is s t x v is; other = subst (λ (h : Site). y < length h.clusters) (sym is.site) lt }
 
-client_is : (s : Setup) (t x c : ℕ) (v : BrokerBook) → IsNodeOf s t x v → length v.broker.sessions ≡ length s.clients → c < length s.clients → IsClients v x c
+client_is : (s : Setup) (t x c : ℕ) (v : BrokerView) → IsNodeOf s t x v → length v.broker.sessions ≡ length s.clients → c < length s.clients → IsClients v x c
 client_is s t x c v is sessions lt = record { cluster = sym (ap (λ (h : Site). h.own) is.site); client = subst (λ (m : ℕ). c < m) (sym sessions) lt }
 
-of_event : (s : Setup) (v : BrokerBook) (e : Event) → IsNodeOf s (topic_of s e) (cluster_of e) v → length v.broker.sessions ≡ length s.clients → IsBrokers e → IsEvent s e → IsOfNode v e
+of_event : (s : Setup) (v : BrokerView) (e : Event) → IsNodeOf s (topic_of s e) (cluster_of e) v → length v.broker.sessions ≡ length s.clients → IsBrokers e → IsEvent s e → IsOfNode v e
 of_event s v (event.Serve x c) is sessions b h = client_is s (declared_at s c).topic x c v is sessions h.1
 of_event s v (event.Drop x c) is sessions b h = client_is s (declared_at s c).topic x c v is sessions h.1
 of_event s v (event.Reset t x y) is sessions b h = link_is s t x y v is h.target_in
@@ -161,18 +159,18 @@ of_event s v (event.Go c) is sessions b h = absurd b
 of_event s v (event.Get c) is sessions b h = absurd b
 of_event s v (event.Reconnect c) is sessions b h = absurd b
 
-pub ground_of : (s : Setup) (b : WorldBook) (h : IsAt s b) → IsGround s h.world
+pub ground_of : (s : Setup) (b : WorldView) (h : IsAt s b) → IsGround s h.world
 ground_of s b h = ground s h.setup h.world h.reached
 
-sessions_at : (s : Setup) (b : WorldBook) (n : ℕ) → IsAt s b → n < length b.nodes → length (node_at b.nodes n).broker.sessions ≡ length s.clients
+sessions_at : (s : Setup) (b : WorldView) (n : ℕ) → IsAt s b → n < length b.brokers → length (node_at b.brokers n).broker.sessions ≡ length s.clients
 sessions_at s b n h lt =
     let g = ground_of s b h in
-    let size : length h.world.brokers ≡ length b.nodes = ap (λ (bs : List Broker). length bs) (sym h.stands.brokers) ∙ length-map b.nodes (λ (v : BrokerBook). v.broker) in
+    let size : length h.world.brokers ≡ length b.brokers = ap (λ (bs : List Broker). length bs) (sym h.stands.brokers) ∙ length-map b.brokers (λ (v : BrokerView). v.broker) in
     ap (λ (c : Broker). length c.sessions) (stands_at s b h.world n h.stands lt) ∙ (g.places.each n (subst (λ (m : ℕ). n < m) (sym size) lt)).sessions
 
-pub of_node : (s : Setup) (b : WorldBook) (e : Event) → IsAt s b → IsBrokers e → IsEvent s e → IsOfNode (node_at b.nodes (node_of s e)) e
+pub of_node : (s : Setup) (b : WorldView) (e : Event) → IsAt s b → IsBrokers e → IsEvent s e → IsOfNode (node_at b.brokers (node_of s e)) e
 of_node s b e h brokers here =
-    of_event s (node_at b.nodes (node_of s e)) e (node_is s b e h brokers here) (sessions_at s b (node_of s e) h (node_below s b e h brokers here)) brokers here
+    of_event s (node_at b.brokers (node_of s e)) e (node_is s b e h brokers here) (sessions_at s b (node_of s e) h (node_below s b e h brokers here)) brokers here
 
 -- ---- numbers that rise
 
@@ -180,7 +178,7 @@ of_node s b e h brokers here =
 abbrev pub most_number : ℕ
 most_number = most_at_start + most_events
 
-pub few : (s : Setup) (b : WorldBook) (h : IsAt s b) → h.world.events ≤ 2000000
+pub few : (s : Setup) (b : WorldView) (h : IsAt s b) → h.world.events ≤ 2000000
 few s b h = let same : b.events ≡ h.world.events = h.stands.events in let most : b.events + b.idle ≤ 2000000 = h.within.few in omega (arith, same, most)
 
 seeks_in : (n : ℕ) (vs : List Subscription) (name : List ℕ) → n ≤ most_number → AllByRecursion (λ (v : Subscription). v.seeks ≤ n) vs
@@ -190,7 +188,7 @@ seeks_in n (v ∷ vs) name most h =
     on_if (λ (o : Option Subscription). IfSome o (λ u. u.seeks + 1 < 2 ^ 64)) (bytes_eq v.name name) _ _ (omega (arith, most, h.0)) (seeks_in n vs name most h.1)
 
 sessions_rise : (n : ℕ) (b : Broker) (e : Event) → n ≤ most_number → BrokerWithin n b → SessionRises b e
-sessions_rise n b (event.Reset t x y) most h = omega (arith, most, (h.senders y).session)
+sessions_rise n b (event.Reset t x y) most h = omega (arith, most, (h.replicators y).session)
 sessions_rise n b (event.Serve x c) most h = tt
 sessions_rise n b (event.Drop x c) most h = tt
 sessions_rise n b (event.Read t x y) most h = tt
@@ -234,7 +232,7 @@ marker_rises h b (event.Go c) fits = tt
 marker_rises h b (event.Get c) fits = tt
 marker_rises h b (event.Reconnect c) fits = tt
 
-rises : (s : Setup) (n : ℕ) (v : BrokerBook) (c : Broker) (t x : ℕ) (e : Event) → IsNodeOf s t x v → v.broker ≡ c → n ≤ most_number → BrokerWithin n c → next_marker x c.entries + 1 < 2 ^ 64
+rises : (s : Setup) (n : ℕ) (v : BrokerView) (c : Broker) (t x : ℕ) (e : Event) → IsNodeOf s t x v → v.broker ≡ c → n ≤ most_number → BrokerWithin n c → next_marker x c.entries + 1 < 2 ^ 64
     → NumbersRise v e
 rises s n v c t x e is same most h marker = record {
   session = subst (λ (b : Broker). SessionRises b e) (sym same) (sessions_rise n c e most h);
@@ -244,15 +242,15 @@ rises s n v c t x e is same most h marker = record {
       (subst (λ (i : ℕ). next_marker i c.entries + 1 < 2 ^ 64) (sym (ap (λ (h : Site). h.own) is.site)) marker));
 }
 
-pub numbers_rise : (s : Setup) (b : WorldBook) (e : Event) → IsAt s b → IsBrokers e → IsEvent s e → NumbersRise (node_at b.nodes (node_of s e)) e
+pub numbers_rise : (s : Setup) (b : WorldView) (e : Event) → IsAt s b → IsBrokers e → IsEvent s e → NumbersRise (node_at b.brokers (node_of s e)) e
 numbers_rise s b e h brokers here =
     let g = ground_of s b h in let w = h.world in let most = few s b h in
     let short : w.events < 2 ^ 62 = omega (arith, most) in let low : most_at_start + w.events ≤ most_number = omega (arith, most) in
-    rises s (most_at_start + w.events) (node_at b.nodes (node_of s e)) (broker_at w (node_of s e)) (topic_of s e) (cluster_of e) e (node_is s b e h brokers here)
+    rises s (most_at_start + w.events) (node_at b.brokers (node_of s e)) (broker_at w (node_of s e)) (topic_of s e) (cluster_of e) e (node_is s b e h brokers here)
     (stands_at s b w (node_of s e) h.stands (node_below s b e h brokers here)) low (g.numbers.brokers (node_of s e))
     (g.markers short (topic_of s e) (cluster_of e) (topic_in s e h.setup brokers here) (cluster_in s e brokers here))
 
-pub stamp_fits : (s : Setup) (b : WorldBook) (n : ℕ) (takes : Option LinkName) → IsAt s b → stamp_at b.broker_clocks n b.links takes < 2 ^ 64
+pub stamp_fits : (s : Setup) (b : WorldView) (n : ℕ) (takes : Option LinkName) → IsAt s b → stamp_at b.broker_clocks n b.links takes < 2 ^ 64
 stamp_fits s b n takes h =
     let g = ground_of s b h in let w = h.world in let most = few s b h in let m : ℕ = most_at_start + w.events in
     let clock : slice_index b.broker_clocks n ≤ m = subst (λ (cs : List ℕ). slice_index cs n ≤ m) (sym h.stands.broker_clocks) (g.numbers.broker_clocks n) in
@@ -262,13 +260,13 @@ stamp_fits s b n takes h =
 
 -- ---- the same where brokers have other room
 
-pub at_same : (s : Setup) (old new : WorldBook) → IsAt s old → SameWorld old new → IsAt s new
+pub at_same : (s : Setup) (old new : WorldView) → IsAt s old → SameWorld old new → IsAt s new
 at_same s old new h same =
     let counts : new.events + new.idle ≡ old.events + old.idle = ap (λ (k : Kept). k.events + k.idle) same.kept in
     let bytes : new.frame_bytes ≡ old.frame_bytes = ap (λ (k : Kept). k.frame_bytes) same.kept in
     record {
       setup = h.setup;
-      nodes = same.nodes s h.nodes;
+      brokers = same.brokers s h.brokers;
       world = h.world;
       reached = h.reached;
       stands = subst (λ (k : Kept). Stands s k h.world) (sym same.kept) h.stands;
@@ -277,30 +275,30 @@ at_same s old new h same =
 
 -- ---- premises of the calls, for a number of a broker that is the event's
 
-pub number_below : (s : Setup) (b : WorldBook) (e : Event) (n : ℕ) → IsAt s b → IsBrokers e → IsEvent s e → n ≡ node_of s e → n < length b.nodes
+pub number_below : (s : Setup) (b : WorldView) (e : Event) (n : ℕ) → IsAt s b → IsBrokers e → IsEvent s e → n ≡ node_of s e → n < length b.brokers
 number_below s b e n h brokers here is = rw is (node_below s b e h brokers here)
 
-pub number_of : (s : Setup) (b : WorldBook) (e : Event) (n : ℕ) → IsAt s b → IsBrokers e → IsEvent s e → n ≡ node_of s e → IsOfNode (node_at b.nodes n) e
+pub number_of : (s : Setup) (b : WorldView) (e : Event) (n : ℕ) → IsAt s b → IsBrokers e → IsEvent s e → n ≡ node_of s e → IsOfNode (node_at b.brokers n) e
 number_of s b e n h brokers here is = rw is (of_node s b e h brokers here)
 
-pub number_rises : (s : Setup) (b : WorldBook) (e : Event) (n : ℕ) → IsAt s b → IsBrokers e → IsEvent s e → n ≡ node_of s e → NumbersRise (node_at b.nodes n) e
+pub number_rises : (s : Setup) (b : WorldView) (e : Event) (n : ℕ) → IsAt s b → IsBrokers e → IsEvent s e → n ≡ node_of s e → NumbersRise (node_at b.brokers n) e
 number_rises s b e n h brokers here is = rw is (numbers_rise s b e h brokers here)
 
-clock_of : (s : Setup) (b : WorldBook) (e : Event) → IsAt s b → IsBrokers e → IsEvent s e → node_of s e < length b.broker_clocks
+clock_of : (s : Setup) (b : WorldView) (e : Event) → IsAt s b → IsBrokers e → IsEvent s e → node_of s e < length b.broker_clocks
 clock_of s b e h brokers here =
     subst (λ (cs : List ℕ). node_of s e < length cs) (sym h.stands.broker_clocks) (subst (λ (m : ℕ). node_of s e < m) (sym (ground_of s b h).places.broker_clocks) (node_in s e h.setup brokers here))
 
-pub mid_below : (s : Setup) (old mid : WorldBook) (e : Event) (n : ℕ) → IsAt s old → SameWorld old mid → IsBrokers e → IsEvent s e → n ≡ node_of s e → n < length mid.nodes
+pub mid_below : (s : Setup) (old mid : WorldView) (e : Event) (n : ℕ) → IsAt s old → SameWorld old mid → IsBrokers e → IsEvent s e → n ≡ node_of s e → n < length mid.brokers
 mid_below s old mid e n h same brokers here is = number_below s mid e n (at_same s old mid h same) brokers here is
 
-pub mid_clock : (s : Setup) (old mid : WorldBook) (e : Event) (n : ℕ) → IsAt s old → SameWorld old mid → IsBrokers e → IsEvent s e → n ≡ node_of s e → n < length mid.broker_clocks
+pub mid_clock : (s : Setup) (old mid : WorldView) (e : Event) (n : ℕ) → IsAt s old → SameWorld old mid → IsBrokers e → IsEvent s e → n ≡ node_of s e → n < length mid.broker_clocks
 mid_clock s old mid e n h same brokers here is = rw is (clock_of s mid e (at_same s old mid h same) brokers here)
 
-pub mid_within : (s : Setup) (old mid : WorldBook) → IsAt s old → SameWorld old mid → IsWithin mid
+pub mid_within : (s : Setup) (old mid : WorldView) → IsAt s old → SameWorld old mid → IsWithin mid
 mid_within s old mid h same = (at_same s old mid h same).within
 
-pub mid_stamp : (s : Setup) (old mid : WorldBook) (n : ℕ) (takes : Option LinkName) → IsAt s old → SameWorld old mid → stamp_at mid.broker_clocks n mid.links takes < 2 ^ 64
+pub mid_stamp : (s : Setup) (old mid : WorldView) (n : ℕ) (takes : Option LinkName) → IsAt s old → SameWorld old mid → stamp_at mid.broker_clocks n mid.links takes < 2 ^ 64
 mid_stamp s old mid n takes h same = stamp_fits s mid n takes (at_same s old mid h same)
 
-pub at_within : (s : Setup) (b : WorldBook) → IsAt s b → IsWithin b
+pub at_within : (s : Setup) (b : WorldView) → IsAt s b → IsWithin b
 at_within s b h = h.within

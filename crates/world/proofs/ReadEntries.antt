@@ -1,6 +1,6 @@
 -- An entry that a file holds can be written again, and its texts tell it.
 use Rattle.std.proofs.Common.{◌≡◌, ℕ, ◌+◌, ◌<◌, ◌≤◌, ◌==◌, Bool, true, false, List, [], ◌∷◌, ◌++◌, length, refl, sym, ap, subst, ◌∙◌, arith}
-use Rattle.std.specs.Prelude.{Option, Some, None, ◌&&◌, if◌then◌else◌, is_none}
+use Rattle.std.specs.Prelude.{Option, Some, None, if◌then◌else◌, is_none}
 use Rattle.std.specs.List.{AllByRecursion}
 use Rattle.std.specs.Str.{bytes_eq}
 use Rattle.std.proofs.lemmas.Bool.{eqb-true, false≢true}
@@ -8,7 +8,7 @@ use Rattle.std.proofs.lemmas.Option.{none-some, same_Some}
 use Rattle.broker_plans.specs.Storable.{AreStorable, IsStorable, marker_slack, most_stored}
 use Rattle.state_items.specs.Origins.{number_of, origin_of}
 use Rattle.geo_base.specs.declared.entry.Entry.{Entry}
-use Rattle.geo_base.specs.declared.marker.Place.TheVariants as place
+use Rattle.geo_base.specs.declared.marker.ClusterRef.TheVariants as cluster_ref
 use Rattle.geo_base.specs.Broker.{Site}
 use Rattle.geo_base.specs.Entry.{is_own_marker}
 use Rattle.geo_base.specs.Sizes.{entry_size, most_entry_size}
@@ -30,14 +30,7 @@ use Rattle.frame_values.proofs.Known.{content_told}
 use Rattle.frame_values.specs.Told.{IsToldEntry}
 use Rattle.frame_values.specs.Values.{place_from, targets_of}
 use Rattle.world_laws.specs.Starts.{AreStored, IsNextStored}
-
-first_of : (a b : Bool) → (a && b) ≡ true → a ≡ true
-first_of true b h = refl
-first_of false b h = absurd (false≢true h)
-
-second_of : (a b : Bool) → (a && b) ≡ true → b ≡ true
-second_of true b h = h
-second_of false b h = absurd (false≢true h)
+use Rattle.geo_base.proofs.Bools.{and_first, and_second}
 
 -- ---- its texts tell it
 
@@ -112,7 +105,7 @@ number_within : (ms : List (List ℕ)) (j : ℕ) (n : List ℕ) (x : ℕ) → nu
 number_within [] j n x h = absurd (none-some x h)
 number_within (m ∷ ms) j n x h = by (bytes_eq m n) h (number_within ms (j + 1) n x)
   where
-    by : (b : Bool) → number_of (if b then place.Known j else place_from (j + 1) ms n) ≡ Some x → (number_of (place_from (j + 1) ms n) ≡ Some x → x < j + 1 + length ms) → x < j + length (m ∷ ms)
+    by : (b : Bool) → number_of (if b then cluster_ref.Known j else place_from (j + 1) ms n) ≡ Some x → (number_of (place_from (j + 1) ms n) ≡ Some x → x < j + 1 + length ms) → x < j + length (m ∷ ms)
     by true e later = let same = same_Some j x e in omega (arith, same)
     by false e later = let lt = later e in omega (arith, lt)
 
@@ -133,8 +126,8 @@ next_stored names own before e lt h =
     let turn = is_in_turn own before e.ident in
     record {
       origin = origin_within names own h.meta.replicated_from e.ident.origin lt h.origin;
-      new = first_of new turn h.next;
-      marker = λ marker. turn_is own before e (second_of new turn h.next) marker;
+      new = and_first new turn h.next;
+      marker = λ marker. turn_is own before e (and_second new turn h.next) marker;
     }
 
 pub all_stored : (names : List (List ℕ)) (own : ℕ) (es before : List Entry) → own < length names → AllFit (IsKnownEntry names own) before es → AreStored (length names) own before es

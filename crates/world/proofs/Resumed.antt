@@ -11,7 +11,7 @@ use Rattle.geo_base.specs.declared.session.Session.{Session}
 use Rattle.geo_base.specs.Broker.{Broker, changed, no_broker}
 use Rattle.geo_base.specs.Client.{Client}
 use Rattle.geo_base.specs.Scripted.{IsScripted}
-use Rattle.geo_base.specs.Sender.{Sender, new_sender, sender_restarted}
+use Rattle.geo_base.specs.Replicator.{Replicator, new_replicator, replicator_restarted}
 use Rattle.geo_base.specs.Setup.{Setup}
 use Rattle.geo_base.specs.Subscription.{Subscription, cleared}
 use Rattle.geo_base.specs.World.{node, topic_at}
@@ -20,16 +20,17 @@ use Rattle.state_file.specs.Known.{IsClientBehind, IsKnownBehind, IsKnownState}
 use Rattle.state_file.specs.State.{SavedState}
 use Rattle.state_items.specs.Fitting.{AllFit}
 use Rattle.state_items.proofs.Again.{cursor_below}
-use Rattle.state_nodes.specs.Fitting.{IsPlace, IsSender, IsSub}
+use Rattle.state_nodes.specs.Fitting.{IsPlace, IsReplicator, IsSub}
 use Rattle.state_nodes.specs.Known.{IsKnownNode}
 use Rattle.frame_values.specs.Told.{IsToldEntry}
-use Rattle.world_kept.proofs.Reaching.{start_reached}
-use Rattle.world_kept.specs.Reached.{Reached}
+use Rattle.kept_laws.proofs.Reaching.{start_reached}
+use Rattle.kept_laws.specs.Reached.{Reached}
 use Rattle.world_laws.specs.Frames.{AllEntries}
 use Rattle.world_laws.specs.Indexes.{AreBelow, HasIndexes, KeepsIndexes}
 use Rattle.world_laws.specs.Starts.{IsStart, IsStartBroker, IsStartClient, IsStartSub, most_at_start}
-use Rattle.world_kept.specs.Saved.{revived, world_from}
+use Rattle.kept_laws.specs.Saved.{revived, world_from}
 use Rattle.world.proofs.ReadEntries.{all_stored, all_told, fit_each}
+use Rattle.geo_base.proofs.Lists.{map_of_copies}
 
 -- ---- lists
 
@@ -54,33 +55,29 @@ same_map : {X : Type 0} (f : X → X) (xs : List X) → AllByRecursion (λ (x : 
 same_map f [] h = refl
 same_map f (x ∷ xs) h = ap (λ (y : _). y ∷ map f xs) h.0 ∙ ap (λ (ys : List _). x ∷ ys) (same_map f xs h.1)
 
-same_copies : {X : Type 0} (f : X → X) (n : ℕ) (x : X) → f x ≡ x → map f (replicate n x) ≡ replicate n x
-same_copies f zero x h = refl
-same_copies f (suc n) x h = ap (λ (y : _). y ∷ map f (replicate n x)) h ∙ ap (λ (ys : List _). x ∷ ys) (same_copies f n x h)
-
 -- ---- a broker
 
-record IsAtRest (n : ℕ) (v : Sender) : Type 0 where
+record IsAtRest (n : ℕ) (v : Replicator) : Type 0 where
   pub session : v.session ≤ most_at_start
   pub keeps : KeepsIndexes n v
-  pub restarted : sender_restarted v ≡ v
+  pub restarted : replicator_restarted v ≡ v
 
-new_at_rest : (n : ℕ) → IsAtRest n new_sender
+new_at_rest : (n : ℕ) → IsAtRest n new_replicator
 new_at_rest n = record { session = omega arith; keeps = record { acked = λ i h. absurd (false≢true h); pending = tt }; restarted = refl }
 
-none_pending : (n : ℕ) (v : Sender) → sender_restarted v ≡ v → v.pending ≡ []
-none_pending n v h = sym (ap (λ (u : Sender). u.pending) h)
+none_pending : (n : ℕ) (v : Replicator) → replicator_restarted v ≡ v → v.pending ≡ []
+none_pending n v h = sym (ap (λ (u : Replicator). u.pending) h)
 
-sender_at_rest : (n : ℕ) (v : Sender) → IsSender n v → IsAtRest n v
-sender_at_rest n v h = record {
+replicator_at_rest : (n : ℕ) (v : Replicator) → IsReplicator n v → IsAtRest n v
+replicator_at_rest n v h = record {
   session = h.session;
   keeps = record { acked = cursor_below n v.cursor h.acked; pending = rw (none_pending n v h.restarted) tt };
   restarted = h.restarted;
 }
 
-place_at_rest : (n own : ℕ) (before : List Sender) (v : Sender) → IsPlace n own before v → IsAtRest n v
+place_at_rest : (n own : ℕ) (before : List Replicator) (v : Replicator) → IsPlace n own before v → IsAtRest n v
 place_at_rest n own before v (inl unused) = subst (IsAtRest n) (sym unused.1) (new_at_rest n)
-place_at_rest n own before v (inr other) = sender_at_rest n v other.1
+place_at_rest n own before v (inr other) = replicator_at_rest n v other.1
 
 sub_starts : (n : ℕ) (before : List Subscription) (v : Subscription) → IsSub n before v → IsStartSub v
 sub_starts n before v h = record { name = h.name; seeks = h.seeks }
@@ -91,11 +88,11 @@ sub_below n before v h = cursor_below n v.cursor h.acked
 at_rest : (s : Setup) (per own : ℕ) (b : Broker) → IsKnownNode per s.clusters own b → changed (revived s b) change.Forget ≡ revived s b
 at_rest s per own b h =
     let n = length b.entries in
-    let senders : map sender_restarted b.senders ≡ b.senders =
-    same_map sender_restarted b.senders (fit_each (IsPlace n own) (λ (v : Sender). sender_restarted v ≡ v) (λ before v p. (place_at_rest n own before v p).restarted) b.senders [] h.senders) in
+    let replicators : map replicator_restarted b.replicators ≡ b.replicators =
+    same_map replicator_restarted b.replicators (fit_each (IsPlace n own) (λ (v : Replicator). replicator_restarted v ≡ v) (λ before v p. (place_at_rest n own before v p).restarted) b.replicators [] h.replicators) in
     let subs : map cleared b.subs ≡ b.subs = same_map cleared b.subs (fit_each (IsSub n) (λ (v : Subscription). cleared v ≡ v) (λ before v p. p.at_rest) b.subs [] h.subs.each) in
     let builder : b.builder ≡ None = sym (ap (λ (c : Broker). c.builder) h.durable) in
-    rw (senders, subs, builder, same_copies (λ (r : Option ℕ). None) (length s.clusters) None refl, same_copies (λ (r : Option Session). None) (length s.clients) None refl) refl
+    rw (replicators, subs, builder, map_of_copies (λ (r : Option ℕ). None) (length s.clusters) None refl, map_of_copies (λ (r : Option Session). None) (length s.clients) None refl) refl
 
 broker_starts : (s : Setup) (per own : ℕ) (b : Broker) → own < length s.clusters → length b.entries ≤ most_at_start → IsKnownNode per s.clusters own b → IsStartBroker (length s.clusters) own (revived s b)
 broker_starts s per own b there few h =
@@ -103,7 +100,7 @@ broker_starts s per own b there few h =
     record {
       few = few;
       entries = all_stored s.clusters own b.entries [] there h.entries;
-      senders = fit_each (IsPlace n own) (λ (v : Sender). v.session ≤ most_at_start) (λ before v p. (place_at_rest n own before v p).session) b.senders [] h.senders;
+      replicators = fit_each (IsPlace n own) (λ (v : Replicator). v.session ≤ most_at_start) (λ before v p. (place_at_rest n own before v p).session) b.replicators [] h.replicators;
       subs = fit_each (IsSub n) IsStartSub (sub_starts n) b.subs [] h.subs.each;
       at_rest = at_rest s per own b h;
     }
@@ -114,11 +111,11 @@ broker_has s per own b h =
     record {
       ledgers = omega (arith, h.together);
       subs = fit_each (IsSub n) (λ (v : Subscription). AreBelow n v.cursor) (sub_below n) b.subs [] h.subs.each;
-      senders = λ y. fit_all (IsPlace n own) (KeepsIndexes n) (λ before v p. (place_at_rest n own before v p).keeps) b.senders [] h.senders new_sender (new_at_rest n).keeps y;
+      replicators = λ y. fit_all (IsPlace n own) (KeepsIndexes n) (λ before v p. (place_at_rest n own before v p).keeps) b.replicators [] h.replicators new_replicator (new_at_rest n).keeps y;
     }
 
 none_has : HasIndexes no_broker
-none_has = record { ledgers = omega arith; subs = tt; senders = λ y. (new_at_rest 0).keeps }
+none_has = record { ledgers = omega arith; subs = tt; replicators = λ y. (new_at_rest 0).keeps }
 
 -- ---- all brokers
 
@@ -159,17 +156,17 @@ client_starts : (s : Setup) (before : List Client) (k : Client) → IsClientBehi
 client_starts s before k h = record { connection = h.connection; receipts = h.receipts; duplicates = h.duplicates; errors = h.errors; apart = h.stopped }
 
 broker_places : (s : Setup) (per own : ℕ) (b : Broker) → IsKnownNode per s.clusters own b → BrokerPlaces s (revived s b)
-broker_places s per own b h = record { senders = h.all_senders; receivers = length-replicate (length s.clusters) None; sessions = length-replicate (length s.clients) None }
+broker_places s per own b h = record { replicators = h.all_replicators; receivers = length-replicate (length s.clusters) None; sessions = length-replicate (length s.clients) None }
 
 -- no topic has more entries than a start may have
 abbrev pub AreFew : List Broker → Type 0
 AreFew bs = AllByRecursion (λ (b : Broker). length b.entries ≤ most_at_start) bs
 
-pub state_starts : (v : SavedState) → IsScripted v.scenario.setup → IsKnownState v → AreFew v.nodes → IsStart v.scenario.setup (world_from v)
+pub state_starts : (v : SavedState) → IsScripted v.scenario.setup → IsKnownState v → AreFew v.brokers → IsStart v.scenario.setup (world_from v)
 state_starts v scripted h few =
     let s = v.scenario.setup in
-    let size = length-map v.nodes (revived s) in
-    let within : (z : ℕ) → z < length (map (revived s) v.nodes) → z < length v.nodes = λ z lt. omega (arith, size, lt) in
+    let size = length-map v.brokers (revived s) in
+    let within : (z : ℕ) → z < length (map (revived s) v.brokers) → z < length v.brokers = λ z lt. omega (arith, size, lt) in
     record {
       places = record {
         brokers = size ∙ h.all_nodes;
@@ -178,16 +175,16 @@ state_starts v scripted h few =
         client_clocks = length-replicate (length s.clients) 0;
         each = λ z lt.
             let k = within z lt in
-            subst (BrokerPlaces s) (sym (revived_at s v.nodes z k)) (broker_places s s.per_ledger (z % length s.clusters) (slice_index_or v.nodes z no_broker) (known_node s v.nodes z h.nodes k));
+            subst (BrokerPlaces s) (sym (revived_at s v.brokers z k)) (broker_places s s.per_ledger (z % length s.clusters) (slice_index_or v.brokers z no_broker) (known_node s v.brokers z h.brokers k));
       };
       brokers = λ z lt.
           let k = within z lt in
           let own = z % length s.clusters in
           let there : own < length s.clusters = mod-lt z (omega (arith, scripted.clusters.0)) in
-          subst (IsStartBroker (length s.clusters) own) (sym (revived_at s v.nodes z k))
-          (broker_starts s s.per_ledger own (slice_index_or v.nodes z no_broker) there (each_at (λ (b : Broker). length b.entries ≤ most_at_start) v.nodes z no_broker few k) (known_node s v.nodes z h.nodes k));
+          subst (IsStartBroker (length s.clusters) own) (sym (revived_at s v.brokers z k))
+          (broker_starts s s.per_ledger own (slice_index_or v.brokers z no_broker) there (each_at (λ (b : Broker). length b.entries ≤ most_at_start) v.brokers z no_broker few k) (known_node s v.brokers z h.brokers k));
       clients = fit_each (IsClientBehind s) IsStartClient (client_starts s) v.clients [] h.clients;
-      indexes = λ z. all_have s v.nodes [] z h.nodes;
+      indexes = λ z. all_have s v.brokers [] z h.brokers;
       counts = record { events = h.counts.run; rounds = h.counts.rounds; sent = h.counts.sent };
       unused = refl;
     }
@@ -195,7 +192,7 @@ state_starts v scripted h few =
 state_told : (v : SavedState) → IsKnownState v → AllEntries v.scenario.setup (IsToldEntry v.scenario.setup.clusters None) (world_from v)
 state_told v h t x i e there at =
     let s = v.scenario.setup in
-    each_got (IsToldEntry s.clusters None) (topic_at s (world_from v) t x).entries i e (all_texts s v.nodes [] (node s t x) h.nodes) at
+    each_got (IsToldEntry s.clusters None) (topic_at s (world_from v) t x).entries i e (all_texts s v.brokers [] (node s t x) h.brokers) at
 
-pub state_reached : (v : SavedState) → IsScripted v.scenario.setup → IsKnownState v → AreFew v.nodes → Reached v.scenario.setup (world_from v)
+pub state_reached : (v : SavedState) → IsScripted v.scenario.setup → IsKnownState v → AreFew v.brokers → Reached v.scenario.setup (world_from v)
 state_reached v scripted h few = start_reached v.scenario.setup (world_from v) (state_starts v scripted h few) (state_told v h)

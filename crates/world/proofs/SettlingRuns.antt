@@ -1,6 +1,6 @@
 -- Settling under the limits of a run: events and rounds, one by one.
 use Rattle.std.proofs.Common.{◌≡◌, ℕ, zero, suc, ◌+◌, ◌≤◌, Bool, true, false, List, [], ◌∷◌, refl, sym, ◌∙◌, ap, ◌==◌, arith}
-use Rattle.std.proofs.lemmas.Bool.{eq-eqb, eqb-true, false≢true}
+use Rattle.std.proofs.lemmas.Bool.{eq-eqb, false≢true}
 use Rattle.std.proofs.lemmas.Option.{none-some}
 use Rattle.std.specs.Prelude.{Option, None, Some, ◌||◌, is_some}
 use Rattle.geo_base.specs.declared.event.Event.{Event}
@@ -10,6 +10,7 @@ use Rattle.geo_base.specs.World.{World}
 use Rattle.world_laws.proofs.Budget.InTime.{settles_in_time}
 use Rattle.world.specs.Runs.{at_world}
 use Rattle.world.specs.Settling.{EndsWithin, settled_by}
+pub use Rattle.geo_base.proofs.Sums.{eq_apart as differ}
 
 -- a run that came to a limit
 abbrev pub ended_at : World → ℕ → Ran
@@ -21,7 +22,7 @@ pub stays_ended : (s : Setup) (es : List Event) (w : World) (n : ℕ) → all_se
 stays_ended s [] w n = refl
 stays_ended s (e ∷ es) w n = stays_ended s es w n
 
--- what is left behind an event, by the limit that it would pass
+-- what is left after an event, by the limit that it would pass
 rest_of : (s : Setup) (w : World) (e : Event) (es : List Event) (o : Option ℕ) → all_limits (settled_by s w e) ≡ o
     → all_settle all_limits s (at_world w) (e ∷ es) ≡ all_settle all_limits s (ends_or (at_world w) (settled_by s w e) o) es
 rest_of s w e es o is = ap (λ (l : Option ℕ). all_settle all_limits s (ends_or (at_world w) (settled_by s w e) l) es) is
@@ -62,13 +63,6 @@ on_true : (b : Bool) (x y : Ran) → b ≡ true → elim b as (λ b. Ran) [ true
 on_true true x y is = refl
 on_true false x y is = absurd (false≢true is)
 
-pub differ : (i j : ℕ) → (i ≡ j → ⊥) → (i == j) ≡ false
-differ i j apart = by (i == j) refl
-  where
-    by : (b : Bool) → (i == j) ≡ b → b ≡ false
-    by true is = absurd (apart (eqb-true i j is))
-    by false is = refl
-
 abbrev pub counted : World → World
 counted v = record v { rounds = v.rounds + 1 }
 
@@ -91,7 +85,7 @@ round_ended l s more w n is =
     let q : Ran = all_settle l s (at_world w) (round_of (pairs s)) in
     on_true (is_some q.ended || (q.world.events == w.events)) q (rounds_of more l s (counting_round q)) (ap (λ (o : Option ℕ). is_some o || (q.world.events == w.events)) is)
 
--- so many rounds are some, and one fewer are enough behind one that did something
+-- so many rounds are some, and one fewer are enough after one that did something
 pub ends_later : (s : Setup) (w : World) → EndsWithin zero s w → ⊥
 ends_later s w ends = omega (arith, ends)
 

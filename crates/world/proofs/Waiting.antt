@@ -13,24 +13,24 @@ use Rattle.geo_base.specs.Setup.{Setup}
 use Rattle.geo_base.specs.World.{World, node}
 use Rattle.broker.proofs.Ready.{idle_prepared}
 use Rattle.broker.specs.Events.{plan_at_node}
-use Rattle.broker.specs.Node.{BrokerBook}
+use Rattle.broker.specs.Node.{BrokerView}
 use Rattle.broker_plans.specs.Prepared.{IsPrepared}
-use Rattle.broker_state.specs.Plan.{idle_book}
+use Rattle.broker_state.specs.Plan.{idle_view}
 use Rattle.frame_laws.specs.BytePackets.{StandsForPacket}
 use Rattle.links.specs.declared.name.LinkName.{LinkName}
 use Rattle.links.specs.Each.{Both, neither}
 use Rattle.links.specs.Queues.{packet_on}
 use Rattle.script_text.specs.Scenario.{IsEvent}
 use Rattle.wire_ends.specs.declared.packet.WirePacket.{WirePacket}
-use Rattle.world_kept.specs.Events.{IsBrokers, takes_of}
-use Rattle.world_kept.specs.Reached.{Reached}
-use Rattle.world_kept.specs.Standing.{Stands}
-use Rattle.world.specs.declared.place.Place.{Place}
-use Rattle.world.specs.Steps.{Acts, PreparesAt, Waits, place_at}
-use Rattle.world.specs.World.{IsAt, SameWorld, WorldBook, kept_of, node_at}
+use Rattle.kept_laws.specs.Events.{IsBrokers, takes_of}
+use Rattle.kept_laws.specs.Reached.{Reached}
+use Rattle.kept_laws.specs.Standing.{Stands}
+use Rattle.world.specs.declared.broker_ref.BrokerRef.{BrokerRef}
+use Rattle.world.specs.Steps.{Acts, PreparesAt, Waits, broker_ref_at}
+use Rattle.world.specs.World.{IsAt, SameWorld, WorldView, kept_of, node_at}
 use Rattle.world.proofs.Acting.{acts_idle, plans}
 
-waits_idle : (v : BrokerBook) (e : Event) → is_some (takes_of e) ≡ true → plan_at_node v e None ≡ idle_plan
+waits_idle : (v : BrokerView) (e : Event) → is_some (takes_of e) ≡ true → plan_at_node v e None ≡ idle_plan
 unfolding serve take_packet receipt
 waits_idle v (event.Serve x c) taking = refl
 waits_idle v (event.Take t x y f) taking = refl
@@ -46,27 +46,27 @@ waits_idle v (event.Go c) taking = absurd (false≢true taking)
 waits_idle v (event.Get c) taking = absurd (false≢true taking)
 waits_idle v (event.Reconnect c) taking = absurd (false≢true taking)
 
-pub waits_there : (b : WorldBook) (takes : Option LinkName) (none : Bool) (r : Option WirePacket) → none ≡ is_none takes → none ≡ false → r ≡ packet_on b.links takes → r ≡ None → Waits b takes
+pub waits_there : (b : WorldView) (takes : Option LinkName) (none : Bool) (r : Option WirePacket) → none ≡ is_none takes → none ≡ false → r ≡ packet_on b.links takes → r ≡ None → Waits b takes
 waits_there b None none r known is there empty = absurd (false≢true (sym is ∙ known))
 waits_there b (Some l) none r known is there empty = record { taking = refl; none = sym there ∙ empty }
 
 -- whatever stands for no packet, nothing is prepared
-none_prepares : (v : BrokerBook) (e : Event) (o : Option WirePacket) (i : Option Packet) → o ≡ None → plan_at_node v e None ≡ idle_plan → Both (StandsForPacket v.site.clusters) o i
-    → IsPrepared v.site v.broker (plan_at_node v e i) idle_book
-none_prepares v e None None none is neither = subst (λ (plan : Plan). IsPrepared v.site v.broker plan idle_book) (sym is) (idle_prepared v.site v.broker idle_book refl)
+none_prepares : (v : BrokerView) (e : Event) (o : Option WirePacket) (i : Option Packet) → o ≡ None → plan_at_node v e None ≡ idle_plan → Both (StandsForPacket v.site.clusters) o i
+    → IsPrepared v.site v.broker (plan_at_node v e i) idle_view
+none_prepares v e None None none is neither = subst (λ (plan : Plan). IsPrepared v.site v.broker plan idle_view) (sym is) (idle_prepared v.site v.broker idle_view refl)
 none_prepares v e None (Some q) none is stand = elim stand [ ]
 none_prepares v e (Some w) i none is stand = absurd cc
 
-pub waits_prepared : (b : WorldBook) (n : ℕ) (e : Event) (takes : Option LinkName) → takes ≡ takes_of e → Waits b takes → PreparesAt b n takes e idle_book
+pub waits_prepared : (b : WorldView) (n : ℕ) (e : Event) (takes : Option LinkName) → takes ≡ takes_of e → Waits b takes → PreparesAt b n takes e idle_view
 waits_prepared b n e takes is waits =
-    λ v stand. none_prepares (node_at b.nodes n) e (packet_on b.links takes) v waits.none (waits_idle (node_at b.nodes n) e (subst (λ (o : Option LinkName). is_some o ≡ true) is waits.taking)) stand
+    λ v stand. none_prepares (node_at b.brokers n) e (packet_on b.links takes) v waits.none (waits_idle (node_at b.brokers n) e (subst (λ (o : Option LinkName). is_some o ≡ true) is waits.taking)) stand
 
-pub same_itself : (b : WorldBook) → SameWorld b b
-same_itself b = record { kept = refl; nodes = λ s h. h }
+pub same_itself : (b : WorldView) → SameWorld b b
+same_itself b = record { kept = refl; brokers = λ s h. h }
 
-pub acts_waiting : (s : Setup) (b : WorldBook) (w : World) (e : Event) (place : Place) → IsAt s b → IsBrokers e → IsEvent s e → place ≡ place_at s e → Waits b place.takes
+pub acts_waiting : (s : Setup) (b : WorldView) (w : World) (e : Event) (broker_ref : BrokerRef) → IsAt s b → IsBrokers e → IsEvent s e → broker_ref ≡ broker_ref_at s e → Waits b broker_ref.takes
     → Reached s w → Stands s (kept_of b) w → Acts s b b (happens s w e) (Ok false)
-acts_waiting s b w e place at brokers scripted there waits reached stands =
-    let n : ℕ = node s place.topic place.cluster in
-    let takes : place.takes ≡ takes_of e = subst (λ (a : Place). a.takes ≡ takes_of e) (sym there) refl in
-    acts_idle s b b w e place n idle_book (plans s b b e place n idle_book at (same_itself b) brokers scripted there refl (waits_prepared b n e place.takes takes waits)) refl reached stands
+acts_waiting s b w e broker_ref at brokers scripted there waits reached stands =
+    let n : ℕ = node s broker_ref.topic broker_ref.cluster in
+    let takes : broker_ref.takes ≡ takes_of e = subst (λ (a : BrokerRef). a.takes ≡ takes_of e) (sym there) refl in
+    acts_idle s b b w e broker_ref n idle_view (plans s b b e broker_ref n idle_view at (same_itself b) brokers scripted there refl (waits_prepared b n e broker_ref.takes takes waits)) refl reached stands

@@ -6,15 +6,15 @@ use Rattle.geo_base.specs.declared.event.Step.TheVariants as step
 use Rattle.geo_base.specs.Run.{Limits, Ran, all_limits, all_settle, budget, counting_round, pairs, resets_of, round_of, rounds_of, settles, steps}
 use Rattle.geo_base.specs.Setup.{Setup}
 use Rattle.geo_base.specs.World.{World}
-use Rattle.world_kept.specs.Reached.{Reached}
-use Rattle.world_kept.specs.Standing.{Stands}
+use Rattle.kept_laws.specs.Reached.{Reached}
+use Rattle.kept_laws.specs.Standing.{Stands}
 use Rattle.world.specs.declared.fault.RunFault.{RunFault}
 use Rattle.world.specs.declared.fault.RunFault.TheVariants as fault
 use Rattle.world.specs.Runs.{at_world}
 use Rattle.world.specs.Settling.{EndsWithin}
-use Rattle.world.specs.World.{WorldBook, kept_of}
+use Rattle.world.specs.World.{WorldView, kept_of}
 
--- What is seen at each thing that a run does, by what was seen before: at an event, a stop of a broker behind so many writes of one, a
+-- What is seen at each thing that a run does, by what was seen before: at an event, a stop of a broker after so many writes of one, a
 -- stop of everything, where settling begins, at an event of it, and where it ends. The world is the machine's before the event; where
 -- settling ends, the one that it came to.
 pub record Sight (T : Type 0) : Type 0 where
@@ -61,7 +61,7 @@ run_seen o l s r (e ∷ es) t = run_seen o l s (steps l s r e) es (step_seen o l
 
 -- the machine has come to a world for which this one stands; doing these events of settling from there it comes to r, and who has seen
 -- t has then seen all
-pub record IsSettling {T : Type 0} (o : Sight T) (s : Setup) (b : WorldBook) (t : T) (es : List Event) (r : Ran) (all : T) : Type 0 where
+pub record IsSettling {T : Type 0} (o : Sight T) (s : Setup) (b : WorldView) (t : T) (es : List Event) (r : Ran) (all : T) : Type 0 where
   pub world : World
   pub reached : Reached s world
   pub stands : Stands s (kept_of b) world
@@ -70,12 +70,12 @@ pub record IsSettling {T : Type 0} (o : Sight T) (s : Setup) (b : WorldBook) (t 
 
 -- events of settling that bring the machine to r: where they end well, r has not ended, the world stands for r's, and all is seen; a
 -- limit that they come to is the one at which r ended, and the world stands for that of the events done before
-pub record Settles {T : Type 0} (o : Sight T) (s : Setup) (new : WorldBook) (t : T) (r : Ran) (all : T) (result : Result (Unit {0}) RunFault) : Type 0 where
+pub record Settles {T : Type 0} (o : Sight T) (s : Setup) (new : WorldView) (t : T) (r : Ran) (all : T) (result : Result (Unit {0}) RunFault) : Type 0 where
   pub done : OnOk result (IsSettling o s new t [] r all)
   pub large : (n : ℕ) → result ≡ Err (fault.TooLarge n) → Stands s (kept_of new) r.world × (r.ended ≡ Some n)
 
 -- the same by rounds, of which there are more than it takes
-pub record IsRounding {T : Type 0} (o : Sight T) (s : Setup) (b : WorldBook) (t : T) (r : Ran) (all : T) : Type 0 where
+pub record IsRounding {T : Type 0} (o : Sight T) (s : Setup) (b : WorldView) (t : T) (r : Ran) (all : T) : Type 0 where
   pub world : World
   pub most : ℕ
   pub reached : Reached s world
@@ -85,20 +85,20 @@ pub record IsRounding {T : Type 0} (o : Sight T) (s : Setup) (b : WorldBook) (t 
   pub seen : rounds_seen most o all_limits s (at_world world) t ≡ all
 
 -- where r has not ended, and all is seen
-pub record IsSeen {T : Type 0} (s : Setup) (new : WorldBook) (t : T) (r : Ran) (all : T) : Type 0 where
+pub record IsSeen {T : Type 0} (s : Setup) (new : WorldView) (t : T) (r : Ran) (all : T) : Type 0 where
   pub stands : Stands s (kept_of new) r.world
   pub going : r.ended ≡ None
   pub seen : t ≡ all
 
 -- One round on the way to r: one that did something leaves rounds to do; one that did nothing was the last, and a limit that it comes
 -- to is the one at which r ended.
-pub record Rounds {T : Type 0} (o : Sight T) (s : Setup) (new : WorldBook) (t : T) (r : Ran) (all : T) (result : Result Bool RunFault) : Type 0 where
+pub record Rounds {T : Type 0} (o : Sight T) (s : Setup) (new : WorldView) (t : T) (r : Ran) (all : T) (result : Result Bool RunFault) : Type 0 where
   pub more : result ≡ Ok true → IsRounding o s new t r all
   pub done : result ≡ Ok false → IsSeen s new t r all
   pub large : (n : ℕ) → result ≡ Err (fault.TooLarge n) → Stands s (kept_of new) r.world × (r.ended ≡ Some n)
 
 -- and all of them
-pub record Ends {T E : Type 0} (s : Setup) (new : WorldBook) (t : T) (r : Ran) (all : T) (result : Result E RunFault) : Type 0 where
+pub record Ends {T E : Type 0} (s : Setup) (new : WorldView) (t : T) (r : Ran) (all : T) (result : Result E RunFault) : Type 0 where
   pub done : OnOk result (IsSeen s new t r all)
   pub large : (n : ℕ) → result ≡ Err (fault.TooLarge n) → Stands s (kept_of new) r.world × (r.ended ≡ Some n)
 

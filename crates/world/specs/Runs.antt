@@ -5,8 +5,8 @@ use Rattle.geo_base.specs.Setup.{Setup}
 use Rattle.geo_base.specs.World.{World}
 use Rattle.world.specs.declared.fault.RunFault.{RunFault}
 use Rattle.world.specs.declared.fault.RunFault.TheVariants as fault
-use Rattle.world.specs.World.{WorldBook, kept_of}
-use Rattle.world_kept.specs.Standing.{Stands}
+use Rattle.world.specs.World.{WorldView, kept_of}
+use Rattle.kept_laws.specs.Standing.{Stands}
 
 -- the machine's run, which has come to w and has not ended
 abbrev pub at_world : World → Ran
@@ -14,6 +14,6 @@ at_world w = record { world = w; ended = None }
 
 -- A part of a run that brings the machine's run to r: where it ends well, r has not ended and the world stands for r's; a limit that it
 -- comes to is the one at which r ended, and the world stands for that of the events done before. Nothing is said of want of memory.
-pub record Comes {T : Type 0} (s : Setup) (new : WorldBook) (r : Ran) (result : Result T RunFault) : Type 0 where
+pub record Comes {T : Type 0} (s : Setup) (new : WorldView) (r : Ran) (result : Result T RunFault) : Type 0 where
   pub done : OnOk result (Stands s (kept_of new) r.world × (r.ended ≡ None))
   pub large : (n : ℕ) → result ≡ Err (fault.TooLarge n) → Stands s (kept_of new) r.world × (r.ended ≡ Some n)

@@ -6,11 +6,11 @@ use Rattle.geo_base.specs.Run.{Pair, no_limits, resets_of, round_of, rounds_of}
 use Rattle.geo_base.specs.Setup.{Setup}
 use Rattle.geo_base.specs.World.{World}
 use Rattle.script_text.specs.Scenario.{IsEvent}
-use Rattle.world_kept.specs.Events.{IsBrokers}
+use Rattle.kept_laws.specs.Events.{IsBrokers}
 use Rattle.world.specs.declared.settling_events.SettlingEvents.{SettlingEvents}
 use Rattle.world.specs.Runs.{at_world}
 
--- the machine's world behind an event of settling, which is not counted where it is idle
+-- the machine's world after an event of settling, which is not counted where it is idle
 abbrev pub settled_by : Setup → World → Event → World
 settled_by s w e = record (happens s w e) { idle = w.idle }
 

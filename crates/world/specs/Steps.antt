@@ -7,74 +7,74 @@ use Rattle.geo_base.specs.Plan.{done, halted}
 use Rattle.geo_base.specs.Run.{all_limits}
 use Rattle.geo_base.specs.Setup.{Setup}
 use Rattle.geo_base.specs.World.{World}
-use Rattle.broker_state.specs.Plan.{PlanBook, plan_in}
+use Rattle.broker_state.specs.Plan.{PlanView, plan_in}
 use Rattle.broker_plans.specs.Prepared.{IsPrepared}
-use Rattle.world.specs.declared.place.Place.{Place}
-use Rattle.world.specs.World.{AreNodes, WorldBook, brokers_of, kept_of, node_at}
+use Rattle.world.specs.declared.broker_ref.BrokerRef.{BrokerRef}
+use Rattle.world.specs.World.{AreNodes, WorldView, brokers_of, kept_of, node_at}
 use Rattle.broker.specs.Events.{plan_at_node}
-use Rattle.broker.specs.Node.{BrokerBook}
+use Rattle.broker.specs.Node.{BrokerView}
 use Rattle.world.specs.declared.fault.RunFault.{RunFault}
 use Rattle.world.specs.declared.fault.RunFault.TheVariants as fault
 use Rattle.links.specs.declared.name.LinkName.{LinkName}
 use Rattle.links.specs.declared.name.Node.TheVariants as wire_node
 use Rattle.links.specs.Each.{Both}
 use Rattle.links.specs.Queues.{packet_on, taken_from}
-use Rattle.world_kept.specs.Events.{cluster_of, takes_of, topic_of}
-use Rattle.world_kept.specs.Kept.{broker_acted, broker_stopped, idled}
+use Rattle.kept_laws.specs.Events.{cluster_of, takes_of, topic_of}
+use Rattle.kept_laws.specs.Kept.{broker_acted, broker_stopped, idled}
 use Rattle.frame_laws.specs.BytePackets.{StandsForPacket}
-use Rattle.world_kept.specs.Standing.{Stands}
+use Rattle.kept_laws.specs.Standing.{Stands}
 
 -- the broker of an event, and the link that it takes from
-abbrev pub place_at : Setup → Event → Place
-place_at s e = record { topic = topic_of s e; cluster = cluster_of e; takes = takes_of e }
+abbrev pub broker_ref_at : Setup → Event → BrokerRef
+broker_ref_at s e = record { topic = topic_of s e; cluster = cluster_of e; takes = takes_of e }
 
 -- an event that takes from a link on which there is no packet
-pub record Waits (b : WorldBook) (takes : Option LinkName) : Type 0 where
+pub record Waits (b : WorldView) (takes : Option LinkName) : Type 0 where
   pub taking : is_some takes ≡ true
   pub none : packet_on b.links takes ≡ None
 
 -- an event is prepared at broker n: whatever the packet that it takes stands for, it is the machine's plan of it there
-abbrev pub PreparesAt : WorldBook → ℕ → Option LinkName → Event → PlanBook → Type 0
-PreparesAt b n takes e p = (v : Option Packet) → Both (StandsForPacket (node_at b.nodes n).site.clusters) (packet_on b.links takes) v
-    → IsPrepared (node_at b.nodes n).site (node_at b.nodes n).broker (plan_at_node (node_at b.nodes n) e v) p
+abbrev pub PreparesAt : WorldView → ℕ → Option LinkName → Event → PlanView → Type 0
+PreparesAt b n takes e p = (v : Option Packet) → Both (StandsForPacket (node_at b.brokers n).site.clusters) (packet_on b.links takes) v
+    → IsPrepared (node_at b.brokers n).site (node_at b.brokers n).broker (plan_at_node (node_at b.brokers n) e v) p
 
 -- A step that leads the machine from w to next: where it ends well, the world stands for the machine's after it, which is within the
 -- limits; a limit that it would pass is the one that next is past, and then nothing has changed, nor where memory is wanting.
-pub record Leads (s : Setup) (old new : WorldBook) (next : World) (result : Result (Unit {0}) RunFault) : Type 0 where
+pub record Leads (s : Setup) (old new : WorldView) (next : World) (result : Result (Unit {0}) RunFault) : Type 0 where
   pub done : OnOk result (Stands s (kept_of new) next × (all_limits next ≡ None))
   pub large : (n : ℕ) → result ≡ Err (fault.TooLarge n) → all_limits next ≡ Some n
 
 -- An event that is done where it is enabled, and the answer says whether it was; next is the machine's world after it, which counts
 -- one that was not. The others are as in Leads; an event that would pass a limit is no idle one.
-abbrev pub Acts : Setup → (old new : WorldBook) → World → Result Bool RunFault → Type 0
+abbrev pub Acts : Setup → (old new : WorldView) → World → Result Bool RunFault → Type 0
 Acts s old new next (Ok true) = Stands s (kept_of new) next × (all_limits next ≡ None)
 Acts s old new next (Ok false) = Stands s (idled (kept_of new)) next
 Acts s old new next (Err (fault.TooLarge n)) = (next.idle ≡ old.idle) × (all_limits next ≡ Some n)
 Acts s old new next (Err fault.Memory) = ⊤
 
 -- no event was undone, and neither an idle one nor a round was counted
-pub record IsLater (old new : WorldBook) : Type 0 where
+pub record IsLater (old new : WorldView) : Type 0 where
   pub events : old.events ≤ new.events
   pub idle : new.idle ≡ old.idle
   pub rounds : new.rounds ≡ old.rounds
 
 -- a broker after an event that was prepared there
-abbrev pub done_at : BrokerBook → PlanBook → Broker
+abbrev pub done_at : BrokerView → PlanView → Broker
 done_at v p = done v.site.per_ledger v.broker (plan_in v.broker p)
 
 -- and after a stop in an event, which takes a packet that stands for v
-abbrev pub halted_at : BrokerBook → Event → ℕ → Option Packet → Broker
+abbrev pub halted_at : BrokerView → Event → ℕ → Option Packet → Broker
 halted_at u e k v = halted u.site.per_ledger u.broker k (plan_at_node u e v)
 
 -- one broker has another state, and knows the same of the setup
-pub record IsSetNode (old new : List BrokerBook) (n : ℕ) (b : Broker) : Type 0 where
+pub record IsSetNode (old new : List BrokerView) (n : ℕ) (b : Broker) : Type 0 where
   pub brokers : brokers_of new ≡ slice_set (brokers_of old) n b
   pub same : (s : Setup) → AreNodes s old → AreNodes s new
 
--- all but the brokers, behind an event of broker n whose packets were delivered
-pub record IsCommitted (place : Place) (n stamp : ℕ) (old new : WorldBook) : Type 0 where
+-- all but the brokers, after an event of broker n whose packets were delivered
+pub record IsCommitted (broker_ref : BrokerRef) (n stamp : ℕ) (old new : WorldView) : Type 0 where
   pub clients : new.clients ≡ old.clients
-  pub links : new.links ≡ taken_from place.takes old.links
+  pub links : new.links ≡ taken_from broker_ref.takes old.links
   pub broker_clocks : new.broker_clocks ≡ slice_set old.broker_clocks n stamp
   pub client_clocks : new.client_clocks ≡ old.client_clocks
   pub events : new.events ≡ old.events + 1
@@ -83,20 +83,20 @@ pub record IsCommitted (place : Place) (n stamp : ℕ) (old new : WorldBook) : T
   pub frame_bytes : new.frame_bytes ≡ old.frame_bytes
 
 -- what was prepared at broker n is done, and its packets are on their links
-pub record IsFinished (place : Place) (n : ℕ) (p : PlanBook) (old new : WorldBook) : Type 0 where
-  pub kept : kept_of new ≡ broker_acted (kept_of old) n (wire_node.Broker place.topic place.cluster) place.takes (done_at (node_at old.nodes n) p) p.sent
-  pub same : (s : Setup) → AreNodes s old.nodes → AreNodes s new.nodes
+pub record IsFinished (broker_ref : BrokerRef) (n : ℕ) (p : PlanView) (old new : WorldView) : Type 0 where
+  pub kept : kept_of new ≡ broker_acted (kept_of old) n (wire_node.Broker broker_ref.topic broker_ref.cluster) broker_ref.takes (done_at (node_at old.brokers n) p) p.sent
+  pub same : (s : Setup) → AreNodes s old.brokers → AreNodes s new.brokers
 
--- a stop behind the first k durable writes of an event: broker n is halted in the machine's plan of it, whatever the packet that it
+-- a stop after the first k durable writes of an event: broker n is halted in the machine's plan of it, whatever the packet that it
 -- takes stands for, and nothing else has changed
-pub record IsHalted (n : ℕ) (takes : Option LinkName) (e : Event) (k : ℕ) (old new : WorldBook) : Type 0 where
-  pub broker : (v : Option Packet) → Both (StandsForPacket (node_at old.nodes n).site.clusters) (packet_on old.links takes) v
-      → brokers_of new.nodes ≡ slice_set (brokers_of old.nodes) n (halted_at (node_at old.nodes n) e k v)
-  pub same : (s : Setup) → AreNodes s old.nodes → AreNodes s new.nodes
-  pub rest : new ≡ record old { nodes = new.nodes }
+pub record IsHalted (n : ℕ) (takes : Option LinkName) (e : Event) (k : ℕ) (old new : WorldView) : Type 0 where
+  pub broker : (v : Option Packet) → Both (StandsForPacket (node_at old.brokers n).site.clusters) (packet_on old.links takes) v
+      → brokers_of new.brokers ≡ slice_set (brokers_of old.brokers) n (halted_at (node_at old.brokers n) e k v)
+  pub same : (s : Setup) → AreNodes s old.brokers → AreNodes s new.brokers
+  pub rest : new ≡ record old { brokers = new.brokers }
 
 -- and then its packet is taken, and it is counted
-pub record IsStopped (n : ℕ) (takes : Option LinkName) (e : Event) (k : ℕ) (old new : WorldBook) : Type 0 where
-  pub kept : (v : Option Packet) → Both (StandsForPacket (node_at old.nodes n).site.clusters) (packet_on old.links takes) v
-      → kept_of new ≡ broker_stopped (kept_of old) n takes (halted_at (node_at old.nodes n) e k v)
-  pub same : (s : Setup) → AreNodes s old.nodes → AreNodes s new.nodes
+pub record IsStopped (n : ℕ) (takes : Option LinkName) (e : Event) (k : ℕ) (old new : WorldView) : Type 0 where
+  pub kept : (v : Option Packet) → Both (StandsForPacket (node_at old.brokers n).site.clusters) (packet_on old.links takes) v
+      → kept_of new ≡ broker_stopped (kept_of old) n takes (halted_at (node_at old.brokers n) e k v)
+  pub same : (s : Setup) → AreNodes s old.brokers → AreNodes s new.brokers

@@ -7,16 +7,16 @@ use Rattle.geo_base.specs.Scripted.{IsScripted}
 use Rattle.geo_base.specs.Setup.{Setup}
 use Rattle.geo_base.specs.World.{World, node}
 use Rattle.broker.specs.Events.{IsNodeOf}
-use Rattle.broker.specs.Node.{BrokerBook}
+use Rattle.broker.specs.Node.{BrokerView}
 use Rattle.links.specs.Queues.{WireLinks}
-use Rattle.world_kept.specs.Kept.{Kept}
-use Rattle.world_kept.specs.Standing.{Stands}
-use Rattle.world_kept.specs.Reached.{Reached}
+use Rattle.kept_laws.specs.Kept.{Kept}
+use Rattle.kept_laws.specs.Standing.{Stands}
+use Rattle.kept_laws.specs.Reached.{Reached}
 use Rattle.world_laws.specs.Starts.{most_at_start}
 
 -- brokers by topic and then by cluster, clients by number; a clock is a node's last stamp
-pub record WorldBook : Type 0 where
-  pub nodes : List BrokerBook
+pub record WorldView : Type 0 where
+  pub brokers : List BrokerView
   pub clients : List Client
   pub links : WireLinks
   pub broker_clocks : List ℕ
@@ -32,19 +32,19 @@ pub record WorldHolds (empty : Type 0) (n m : ℕ) : Type 0 where
   pub plan : empty
   pub rounds : n ≤ most_at_start + m
 
-abbrev pub no_node : BrokerBook
-no_node = record { topic = 0; site = record { own = 0; clusters = []; topic = []; per_ledger = 0 }; names = []; broker = no_broker; room = record { entries = 0; streams = 0; places = 0; subs = []; senders = 0 } }
+abbrev pub no_node : BrokerView
+no_node = record { topic = 0; site = record { own = 0; clusters = []; topic = []; per_ledger = 0 }; names = []; broker = no_broker; room = record { entries = 0; streams = 0; places = 0; subs = []; replicators = 0 } }
 
-abbrev pub node_at : List BrokerBook → ℕ → BrokerBook
+abbrev pub node_at : List BrokerView → ℕ → BrokerView
 node_at vs n = slice_index_or vs n no_node
 
-abbrev pub brokers_of : List BrokerBook → List Broker
-brokers_of vs = map (λ (v : BrokerBook). v.broker) vs
+abbrev pub brokers_of : List BrokerView → List Broker
+brokers_of vs = map (λ (v : BrokerView). v.broker) vs
 
 -- without what its brokers know of the setup, and the room that they have
-abbrev pub kept_of : WorldBook → Kept
+abbrev pub kept_of : WorldView → Kept
 kept_of b = record {
-  brokers = brokers_of b.nodes;
+  brokers = brokers_of b.brokers;
   clients = b.clients;
   links = b.links;
   broker_clocks = b.broker_clocks;
@@ -56,25 +56,25 @@ kept_of b = record {
 }
 
 -- the brokers are those of a setup
-pub record AreNodes (s : Setup) (vs : List BrokerBook) : Type 0 where
+pub record AreNodes (s : Setup) (vs : List BrokerView) : Type 0 where
   pub count : length vs ≡ length s.topics * length s.clusters
   pub each : (t x : ℕ) → t < length s.topics → x < length s.clusters → IsNodeOf s t x (node_at vs (node s t x))
 
 -- it is within the limits of a run
-pub record IsWithin (b : WorldBook) : Type 0 where
+pub record IsWithin (b : WorldView) : Type 0 where
   pub few : b.events + b.idle ≤ most_events
   pub short : b.frame_bytes ≤ most_sent_bytes
 
 -- The world stands for one that a run of the setup comes to, within the limits of a run.
-pub record IsAt (s : Setup) (b : WorldBook) : Type 0 where
+pub record IsAt (s : Setup) (b : WorldView) : Type 0 where
   pub setup : IsScripted s
-  pub nodes : AreNodes s b.nodes
+  pub brokers : AreNodes s b.brokers
   pub world : World
   pub reached : Reached s world
   pub stands : Stands s (kept_of b) world
   pub within : IsWithin b
 
 -- nothing of a world's state has changed; brokers may have other room
-pub record SameWorld (old new : WorldBook) : Type 0 where
+pub record SameWorld (old new : WorldView) : Type 0 where
   pub kept : kept_of new ≡ kept_of old
-  pub nodes : (s : Setup) → AreNodes s old.nodes → AreNodes s new.nodes
+  pub brokers : (s : Setup) → AreNodes s old.brokers → AreNodes s new.brokers

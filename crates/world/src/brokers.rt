@@ -4,19 +4,19 @@ ghost use Rattle.broker_state.specs.Plan.{IsEmptyPlan};
 ghost use Rattle.geo_base.specs.Happening.{happens};
 ghost use Rattle.geo_base.specs.World.{World as Machine};
 ghost use Rattle.world.specs.declared.fault.RunFault.TheVariants as fault;
-ghost use Rattle.world.specs.Steps.{Acts, IsCommitted, IsFinished, IsLater, IsSetNode, Leads, PreparesAt, Waits, done_at, place_at};
+ghost use Rattle.world.specs.Steps.{Acts, IsCommitted, IsFinished, IsLater, IsSetNode, Leads, PreparesAt, Waits, done_at, broker_ref_at};
 ghost use Rattle.world.specs.World.{AreNodes, IsAt, IsWithin, SameWorld, kept_of, node_at};
 ghost use Rattle.script_text.specs.Scenario.{IsEvent};
 ghost use Rattle.broker.specs.Events.{IsOfNode, NumbersRise};
 ghost use Rattle.broker.specs.Node.{IsReady};
 ghost use Rattle.links.specs.Queues.{bytes_of, delivered, taken_from};
-ghost use Rattle.world_kept.specs.Events.{IsBrokers};
-ghost use Rattle.world_kept.specs.Kept.{stamp_at};
-ghost use Rattle.world_kept.specs.Standing.{Stands, limit_of};
-ghost use Rattle.world_kept.specs.Reached.{Reached};
+ghost use Rattle.kept_laws.specs.Events.{IsBrokers};
+ghost use Rattle.kept_laws.specs.Kept.{stamp_at};
+ghost use Rattle.kept_laws.specs.Standing.{Stands, limit_of};
+ghost use Rattle.kept_laws.specs.Reached.{Reached};
 
+use crate::broker_ref::{BrokerRef, broker_ref_of};
 use crate::fault::RunFault;
-use crate::place::{Place, place_of};
 use crate::world::World;
 use broker_state::Plan;
 use geo_base::limits::{EVENTS, SENT_BYTES};
@@ -47,7 +47,7 @@ impl World {
         requires scripted { IsEvent scenario.now.setup event.now }
         ensures leads { (w : Machine) → Reached scenario.now.setup w → Stands scenario.now.setup (kept_of self.old) w
             → Leads scenario.now.setup self.old self.new (happens scenario.now.setup w event.now) result }
-        ensures nodes { AreNodes scenario.now.setup self.new.nodes }
+        ensures brokers { AreNodes scenario.now.setup self.new.brokers }
         ensures err { OnErr result (SameWorld self.old self.new) }
     {
         if self.acts(alloc, scenario, event)? {
@@ -73,12 +73,12 @@ impl World {
         ensures idle { result ≡ Ok false → SameWorld self.old self.new }
         ensures err { OnErr result (SameWorld self.old self.new) }
     {
-        let place = place_of(scenario, event);
-        if self.is_waiting(place.takes) {
+        let broker_ref = broker_ref_of(scenario, event);
+        if self.is_waiting(broker_ref.takes) {
             return Ok(false);
         }
         let mut plan = self.take_plan(alloc)?;
-        let acted = self.acts_in(alloc, scenario, event, place, &mut plan);
+        let acted = self.acts_in(alloc, scenario, event, broker_ref, &mut plan);
         self.keep_plan(plan);
         acted
     }
@@ -122,13 +122,13 @@ impl World {
         alloc: Global,
         scenario: &Scenario,
         event: &Event,
-        place: Place,
+        broker_ref: BrokerRef,
         plan: &mut Plan,
     ) -> Result<bool, RunFault>
         requires at { IsAt scenario.now.setup self.old }
         requires broker { IsBrokers event.now }
         requires scripted { IsEvent scenario.now.setup event.now }
-        requires place { place ≡ place_at scenario.now.setup event.now }
+        requires broker_ref { broker_ref ≡ broker_ref_at scenario.now.setup event.now }
         requires empty { IsEmptyPlan plan.old }
         ensures acts { (w : Machine) → Reached scenario.now.setup w → Stands scenario.now.setup (kept_of self.old) w
             → Acts scenario.now.setup self.old self.new (happens scenario.now.setup w event.now) result }
@@ -138,11 +138,11 @@ impl World {
         ensures err { OnErr result (SameWorld self.old self.new) }
         ensures empty { IsEmptyPlan plan.new }
     {
-        let is_ready = self.prepare_enabled(alloc, scenario, event, place, plan)?;
+        let is_ready = self.prepare_enabled(alloc, scenario, event, broker_ref, plan)?;
         if !is_ready {
             return Ok(false);
         }
-        self.finish(alloc, scenario, event, place, plan)?;
+        self.finish(alloc, scenario, event, broker_ref, plan)?;
         Ok(true)
     }
 
@@ -156,16 +156,16 @@ impl World {
         takes: Option<LinkName>,
         plan: &mut Plan,
     ) -> Result<(), Memory>
-        requires node { number < length self.old.nodes }
-        requires of { IsOfNode (node_at self.old.nodes number) event.now }
-        requires numbers { NumbersRise (node_at self.old.nodes number) event.now }
+        requires node { number < length self.old.brokers }
+        requires of { IsOfNode (node_at self.old.brokers number) event.now }
+        requires numbers { NumbersRise (node_at self.old.brokers number) event.now }
         requires empty { IsEmptyPlan plan.old }
         ensures prepared { OnOk result (PreparesAt self.old number takes event.now plan.new) }
-        ensures ready { OnOk result (IsReady (node_at self.new.nodes number) plan.new) }
+        ensures ready { OnOk result (IsReady (node_at self.new.brokers number) plan.new) }
         ensures same { SameWorld self.old self.new }
         ensures err { OnErr result (IsEmptyPlan plan.new) }
     {
-        self.nodes[number].prepare(alloc, event, self.links.next(takes), plan)
+        self.brokers[number].prepare(alloc, event, self.links.next(takes), plan)
     }
 
     /// An event that is not enabled: it is counted.
@@ -191,24 +191,24 @@ impl World {
     pub(crate) fn finish_at(
         &mut self,
         alloc: Global,
-        place: Place,
+        broker_ref: BrokerRef,
         number: usize,
         plan: &mut Plan,
     ) -> Result<(), RunFault>
-        requires node { number < length self.old.nodes }
+        requires node { number < length self.old.brokers }
         requires clock { number < length self.old.broker_clocks }
-        requires ready { IsReady (node_at self.old.nodes number) plan.old }
+        requires ready { IsReady (node_at self.old.brokers number) plan.old }
         requires within { IsWithin self.old }
-        requires stamp { stamp_at self.old.broker_clocks number self.old.links place.takes < 2 ^ 64 }
-        ensures ok { OnOk result (IsFinished place number plan.old self.old self.new) }
+        requires stamp { stamp_at self.old.broker_clocks number self.old.links broker_ref.takes < 2 ^ 64 }
+        ensures ok { OnOk result (IsFinished broker_ref number plan.old self.old self.new) }
         ensures within { OnOk result (limit_of (self.old.events + 1) self.old.idle (self.old.frame_bytes + bytes_of plan.old.sent) ≡ None) }
         ensures large { (n : ℕ) → result ≡ Err (fault.TooLarge n) → limit_of (self.old.events + 1) self.old.idle (self.old.frame_bytes + bytes_of plan.old.sent) ≡ Some n }
         ensures err { OnErr result (self.new ≡ self.old) }
         ensures empty { OnOk result (IsEmptyPlan plan.new) }
     {
-        let stamp = self.stamp_at(number, place.takes);
-        self.send_at(alloc, place.sender(), stamp, plan)?;
-        self.commit_at(place, number, plan, stamp);
+        let stamp = self.stamp_at(number, broker_ref.takes);
+        self.send_at(alloc, broker_ref.sender(), stamp, plan)?;
+        self.commit_at(broker_ref, number, plan, stamp);
         Ok(())
     }
 
@@ -261,17 +261,17 @@ impl World {
 
     /// Takes the packet of an event whose packets were delivered, and does what was prepared.
     #[inline(always)]
-    fn commit_at(&mut self, place: Place, number: usize, plan: &mut Plan, stamp: u64)
-        requires node { number < length self.old.nodes }
+    fn commit_at(&mut self, broker_ref: BrokerRef, number: usize, plan: &mut Plan, stamp: u64)
+        requires node { number < length self.old.brokers }
         requires clock { number < length self.old.broker_clocks }
-        requires ready { IsReady (node_at self.old.nodes number) plan.old }
+        requires ready { IsReady (node_at self.old.brokers number) plan.old }
         requires count { self.old.events + 1 < 2 ^ 64 }
-        ensures nodes { IsSetNode self.old.nodes self.new.nodes number (done_at (node_at self.old.nodes number) plan.old) }
-        ensures rest { IsCommitted place number stamp self.old self.new }
+        ensures brokers { IsSetNode self.old.brokers self.new.brokers number (done_at (node_at self.old.brokers number) plan.old) }
+        ensures rest { IsCommitted broker_ref number stamp self.old self.new }
         ensures empty { IsEmptyPlan plan.new }
     {
-        take_from(&mut self.links, place.takes);
-        self.nodes[number].commit(plan);
+        take_from(&mut self.links, broker_ref.takes);
+        self.brokers[number].commit(plan);
         self.broker_clocks[number] = stamp;
         self.counts.events += 1;
     }

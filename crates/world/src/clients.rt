@@ -9,9 +9,9 @@ ghost use Rattle.world.specs.declared.fault.RunFault.TheVariants as fault;
 ghost use Rattle.world.specs.Steps.{Leads};
 ghost use Rattle.world.specs.World.{AreNodes, IsAt, IsWithin, kept_of};
 ghost use Rattle.links.specs.Queues.{bytes_of};
-ghost use Rattle.world_kept.specs.Kept.{stamp_at};
-ghost use Rattle.world_kept.specs.Standing.{Stands, limit_of};
-ghost use Rattle.world_kept.specs.Reached.{Reached};
+ghost use Rattle.kept_laws.specs.Kept.{stamp_at};
+ghost use Rattle.kept_laws.specs.Standing.{Stands, limit_of};
+ghost use Rattle.kept_laws.specs.Reached.{Reached};
 
 use crate::fault::RunFault;
 use crate::world::World;
@@ -33,7 +33,7 @@ impl World {
         requires client { client < length scenario.now.setup.clients }
         ensures leads { (w : Machine) → Reached scenario.now.setup w → Stands scenario.now.setup (kept_of self.old) w
             → Leads scenario.now.setup self.old self.new (happens scenario.now.setup w (event.Go client)) result }
-        ensures nodes { AreNodes scenario.now.setup self.new.nodes }
+        ensures brokers { AreNodes scenario.now.setup self.new.brokers }
         ensures err { OnErr result (self.new ≡ self.old) }
     {
         let site = site_of(scenario, client);
@@ -52,7 +52,7 @@ impl World {
         requires client { client < length scenario.now.setup.clients }
         ensures leads { (w : Machine) → Reached scenario.now.setup w → Stands scenario.now.setup (kept_of self.old) w
             → Leads scenario.now.setup self.old self.new (happens scenario.now.setup w (event.Reconnect client)) result }
-        ensures nodes { AreNodes scenario.now.setup self.new.nodes }
+        ensures brokers { AreNodes scenario.now.setup self.new.brokers }
         ensures err { OnErr result (self.new ≡ self.old) }
     {
         let site = site_of(scenario, client);

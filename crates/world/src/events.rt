@@ -5,8 +5,8 @@ ghost use Rattle.geo_base.specs.World.{World as Machine};
 ghost use Rattle.world.specs.Steps.{Leads};
 ghost use Rattle.world.specs.World.{IsAt, SameWorld, kept_of};
 ghost use Rattle.script_text.specs.Scenario.{IsEvent};
-ghost use Rattle.world_kept.specs.Standing.{Stands};
-ghost use Rattle.world_kept.specs.Reached.{Reached};
+ghost use Rattle.kept_laws.specs.Standing.{Stands};
+ghost use Rattle.kept_laws.specs.Reached.{Reached};
 
 use crate::fault::RunFault;
 use crate::world::World;

@@ -7,9 +7,9 @@ ghost use Rattle.geo_base.specs.World.{World as Machine};
 ghost use Rattle.world.specs.ClientSteps.{IsGot, after_got, client_in};
 ghost use Rattle.world.specs.Steps.{Leads};
 ghost use Rattle.world.specs.World.{AreNodes, IsAt, kept_of};
-ghost use Rattle.world_kept.specs.Kept.{stamp_at};
-ghost use Rattle.world_kept.specs.Standing.{Stands};
-ghost use Rattle.world_kept.specs.Reached.{Reached};
+ghost use Rattle.kept_laws.specs.Kept.{stamp_at};
+ghost use Rattle.kept_laws.specs.Standing.{Stands};
+ghost use Rattle.kept_laws.specs.Reached.{Reached};
 
 use crate::fault::RunFault;
 use crate::world::World;
@@ -32,7 +32,7 @@ impl World {
         requires client { client < length scenario.now.setup.clients }
         ensures leads { (w : Machine) → Reached scenario.now.setup w → Stands scenario.now.setup (kept_of self.old) w
             → Leads scenario.now.setup self.old self.new (happens scenario.now.setup w (event.Get client)) result }
-        ensures nodes { AreNodes scenario.now.setup self.new.nodes }
+        ensures brokers { AreNodes scenario.now.setup self.new.brokers }
         ensures err { OnErr result (self.new ≡ self.old) }
     {
         self.one_more()?;

@@ -8,13 +8,13 @@ ghost use Rattle.world.specs.Steps.{IsHalted, IsStopped, Leads};
 ghost use Rattle.world.specs.World.{IsAt, IsWithin, SameWorld, kept_of, node_at};
 ghost use Rattle.script_text.specs.Scenario.{IsEvent};
 ghost use Rattle.broker.specs.Events.{IsOfNode, NumbersRise};
-ghost use Rattle.world_kept.specs.Events.{IsBrokers};
-ghost use Rattle.world_kept.specs.Standing.{Stands, limit_of};
-ghost use Rattle.world_kept.specs.Reached.{Reached};
+ghost use Rattle.kept_laws.specs.Events.{IsBrokers};
+ghost use Rattle.kept_laws.specs.Standing.{Stands, limit_of};
+ghost use Rattle.kept_laws.specs.Reached.{Reached};
 
+use crate::broker_ref::broker_ref_of;
 use crate::brokers::EVENT_LIMIT;
 use crate::fault::RunFault;
-use crate::place::place_of;
 use crate::world::{World, node_number};
 use geo_base::limits::EVENTS;
 use geo_base::{Event, Memory};
@@ -23,7 +23,7 @@ use script_text::Scenario;
 use std::alloc::Global;
 
 impl World {
-    /// Stops a broker behind the first `writes` durable writes of an event of it: what they wrote stays, what is in memory is lost,
+    /// Stops a broker after the first `writes` durable writes of an event of it: what they wrote stays, what is in memory is lost,
     /// nothing is sent, and the packet that the event takes is gone. An `Err` changes nothing of the world: a limit of the run that
     /// the stop would pass, or want of memory.
     pub fn halt(
@@ -41,10 +41,10 @@ impl World {
         ensures at { IsAt scenario.now.setup self.new }
         ensures err { OnErr result (SameWorld self.old self.new) }
     {
-        let place = place_of(scenario, event);
-        let number = node_number(scenario, place.topic, place.cluster);
+        let broker_ref = broker_ref_of(scenario, event);
+        let number = node_number(scenario, broker_ref.topic, broker_ref.cluster);
         self.one_more()?;
-        self.stop_at(alloc, number, writes, event, place.takes)?;
+        self.stop_at(alloc, number, writes, event, broker_ref.takes)?;
         Ok(())
     }
 
@@ -72,9 +72,9 @@ impl World {
         event: &Event,
         takes: Option<LinkName>,
     ) -> Result<(), Memory>
-        requires node { number < length self.old.nodes }
-        requires of { IsOfNode (node_at self.old.nodes number) event.now }
-        requires numbers { NumbersRise (node_at self.old.nodes number) event.now }
+        requires node { number < length self.old.brokers }
+        requires of { IsOfNode (node_at self.old.brokers number) event.now }
+        requires numbers { NumbersRise (node_at self.old.brokers number) event.now }
         requires count { self.old.events + 1 < 2 ^ 64 }
         ensures ok { OnOk result (IsStopped number takes event.now writes self.old self.new) }
         ensures err { OnErr result (SameWorld self.old self.new) }
@@ -95,12 +95,12 @@ impl World {
         event: &Event,
         takes: Option<LinkName>,
     ) -> Result<(), Memory>
-        requires node { number < length self.old.nodes }
-        requires of { IsOfNode (node_at self.old.nodes number) event.now }
-        requires numbers { NumbersRise (node_at self.old.nodes number) event.now }
+        requires node { number < length self.old.brokers }
+        requires of { IsOfNode (node_at self.old.brokers number) event.now }
+        requires numbers { NumbersRise (node_at self.old.brokers number) event.now }
         ensures ok { OnOk result (IsHalted number takes event.now writes self.old self.new) }
         ensures err { OnErr result (SameWorld self.old self.new) }
     {
-        self.nodes[number].halt(alloc, writes, event, self.links.next(takes))
+        self.brokers[number].halt(alloc, writes, event, self.links.next(takes))
     }
 }

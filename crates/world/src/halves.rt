@@ -5,14 +5,14 @@ ghost use Rattle.geo_base.specs.Happening.{happens};
 ghost use Rattle.geo_base.specs.World.{World as Machine};
 ghost use Rattle.script_text.specs.Scenario.{IsEvent};
 ghost use Rattle.world.specs.Foreseen.{IsForeseen, IsHalfDone, enabled};
-ghost use Rattle.world.specs.Steps.{Acts, IsLater, place_at};
+ghost use Rattle.world.specs.Steps.{Acts, IsLater, broker_ref_at};
 ghost use Rattle.world.specs.World.{IsAt, SameWorld, kept_of, node_at};
-ghost use Rattle.world_kept.specs.Events.{IsBrokers, node_of};
-ghost use Rattle.world_kept.specs.Reached.{Reached};
-ghost use Rattle.world_kept.specs.Standing.{Stands};
+ghost use Rattle.kept_laws.specs.Events.{IsBrokers, node_of};
+ghost use Rattle.kept_laws.specs.Reached.{Reached};
+ghost use Rattle.kept_laws.specs.Standing.{Stands};
 
+use crate::broker_ref::BrokerRef;
 use crate::fault::RunFault;
-use crate::place::Place;
 use crate::world::{World, node_number};
 use broker_state::Plan;
 use geo_base::{Event, Memory};
@@ -28,13 +28,13 @@ impl World {
         alloc: Global,
         scenario: &Scenario,
         event: &Event,
-        place: Place,
+        broker_ref: BrokerRef,
         plan: &mut Plan,
     ) -> Result<bool, Memory>
         requires at { IsAt scenario.now.setup self.old }
         requires broker { IsBrokers event.now }
         requires scripted { IsEvent scenario.now.setup event.now }
-        requires place { place ≡ place_at scenario.now.setup event.now }
+        requires broker_ref { broker_ref ≡ broker_ref_at scenario.now.setup event.now }
         requires empty { IsEmptyPlan plan.old }
         ensures ready { result ≡ Ok true → IsHalfDone scenario.now.setup self.new event.now plan.new }
         ensures idle { (w : Machine) → Reached scenario.now.setup w → Stands scenario.now.setup (kept_of self.old) w
@@ -44,10 +44,10 @@ impl World {
         ensures same { SameWorld self.old self.new }
         ensures err { OnErr result (IsEmptyPlan plan.new) }
     {
-        if self.is_waiting(place.takes) {
+        if self.is_waiting(broker_ref.takes) {
             return Ok(false);
         }
-        self.prepare_enabled(alloc, scenario, event, place, plan)
+        self.prepare_enabled(alloc, scenario, event, broker_ref, plan)
     }
 
     /// The same of an event that takes no packet, or takes one that is there.
@@ -58,13 +58,13 @@ impl World {
         alloc: Global,
         scenario: &Scenario,
         event: &Event,
-        place: Place,
+        broker_ref: BrokerRef,
         plan: &mut Plan,
     ) -> Result<bool, Memory>
         requires at { IsAt scenario.now.setup self.old }
         requires broker { IsBrokers event.now }
         requires scripted { IsEvent scenario.now.setup event.now }
-        requires place { place ≡ place_at scenario.now.setup event.now }
+        requires broker_ref { broker_ref ≡ broker_ref_at scenario.now.setup event.now }
         requires empty { IsEmptyPlan plan.old }
         ensures ready { result ≡ Ok true → IsHalfDone scenario.now.setup self.new event.now plan.new }
         ensures idle { (w : Machine) → Reached scenario.now.setup w → Stands scenario.now.setup (kept_of self.old) w
@@ -74,8 +74,8 @@ impl World {
         ensures same { SameWorld self.old self.new }
         ensures err { OnErr result (IsEmptyPlan plan.new) }
     {
-        let number = node_number(scenario, place.topic, place.cluster);
-        self.prepare_at(alloc, number, event, place.takes, plan)?;
+        let number = node_number(scenario, broker_ref.topic, broker_ref.cluster);
+        self.prepare_at(alloc, number, event, broker_ref.takes, plan)?;
         if plan.is_idle() {
             plan.clear();
             return Ok(false);
@@ -92,13 +92,13 @@ impl World {
         alloc: Global,
         scenario: &Scenario,
         event: &Event,
-        place: Place,
+        broker_ref: BrokerRef,
         plan: &mut Plan,
     ) -> Result<(), RunFault>
         requires at { IsAt scenario.now.setup self.old }
         requires broker { IsBrokers event.now }
         requires scripted { IsEvent scenario.now.setup event.now }
-        requires place { place ≡ place_at scenario.now.setup event.now }
+        requires broker_ref { broker_ref ≡ broker_ref_at scenario.now.setup event.now }
         requires ready { IsHalfDone scenario.now.setup self.old event.now plan.old }
         ensures acts { (w : Machine) → Reached scenario.now.setup w → Stands scenario.now.setup (kept_of self.old) w
             → Acts scenario.now.setup self.old self.new (happens scenario.now.setup w event.now) (enabled result) }
@@ -107,8 +107,8 @@ impl World {
         ensures err { OnErr result (SameWorld self.old self.new) }
         ensures empty { IsEmptyPlan plan.new }
     {
-        let number = node_number(scenario, place.topic, place.cluster);
-        match self.finish_at(alloc, place, number, plan) {
+        let number = node_number(scenario, broker_ref.topic, broker_ref.cluster);
+        match self.finish_at(alloc, broker_ref, number, plan) {
             Ok(()) => Ok(()),
             Err(fault) => {
                 plan.clear();
@@ -125,21 +125,21 @@ impl World {
         alloc: Global,
         scenario: &Scenario,
         event: &Event,
-        place: Place,
+        broker_ref: BrokerRef,
         plan: &mut Plan,
     ) -> Result<(), Memory>
         requires at { IsAt scenario.now.setup self.old }
         requires broker { IsBrokers event.now }
         requires scripted { IsEvent scenario.now.setup event.now }
-        requires place { place ≡ place_at scenario.now.setup event.now }
+        requires broker_ref { broker_ref ≡ broker_ref_at scenario.now.setup event.now }
         requires empty { IsEmptyPlan plan.old }
         ensures foreseen { OnOk result ((w : Machine) → Reached scenario.now.setup w → Stands scenario.now.setup (kept_of self.new) w
-            → IsForeseen scenario.now.setup w event.now (node_at self.new.nodes (node_of scenario.now.setup event.now)) plan.new) }
+            → IsForeseen scenario.now.setup w event.now (node_at self.new.brokers (node_of scenario.now.setup event.now)) plan.new) }
         ensures at { IsAt scenario.now.setup self.new }
         ensures same { SameWorld self.old self.new }
         ensures err { OnErr result (IsEmptyPlan plan.new) }
     {
-        let number = node_number(scenario, place.topic, place.cluster);
-        self.prepare_at(alloc, number, event, place.takes, plan)
+        let number = node_number(scenario, broker_ref.topic, broker_ref.cluster);
+        self.prepare_at(alloc, number, event, broker_ref.takes, plan)
     }
 }

@@ -4,6 +4,7 @@
 //! it would pass a limit of a run, or memory is wanting, nothing has changed.
 #![tactic(auto)]
 
+mod broker_ref;
 mod brokers;
 mod clients;
 mod events;
@@ -13,7 +14,6 @@ mod halts;
 mod halves;
 mod observer;
 mod opening;
-mod place;
 mod resuming;
 mod running;
 mod saving;
@@ -22,7 +22,7 @@ mod settling_events;
 mod stops;
 mod world;
 
+pub use broker_ref::{BrokerRef, broker_ref_of};
 pub use fault::RunFault;
 pub use observer::{Observer, Unobserved};
-pub use place::{Place, place_of};
 pub use world::World;

@@ -11,9 +11,9 @@ ghost use Rattle.world.specs.Observing.{Sight};
 ghost use Rattle.world.specs.Settling.{IsSettlingEvent, settled_by};
 ghost use Rattle.world.specs.Steps.{IsLater, Leads};
 ghost use Rattle.world.specs.World.{IsAt, SameWorld, kept_of};
-ghost use Rattle.world_kept.specs.Events.{IsBrokers};
-ghost use Rattle.world_kept.specs.Reached.{Reached};
-ghost use Rattle.world_kept.specs.Standing.{Stands};
+ghost use Rattle.kept_laws.specs.Events.{IsBrokers};
+ghost use Rattle.kept_laws.specs.Reached.{Reached};
+ghost use Rattle.kept_laws.specs.Standing.{Stands};
 
 use crate::fault::RunFault;
 use crate::world::World;

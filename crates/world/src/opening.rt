@@ -5,7 +5,7 @@ ghost use Rattle.geo_base.specs.Scripted.{IsScripted};
 ghost use Rattle.links.specs.Queues.{empty_links};
 ghost use Rattle.world.specs.Opening.{AreNew};
 ghost use Rattle.world.specs.World.{IsAt, kept_of};
-ghost use Rattle.world_kept.specs.Kept.{opening_kept};
+ghost use Rattle.kept_laws.specs.Kept.{opening_kept};
 
 use crate::world::World;
 use broker::Broker;
@@ -24,11 +24,11 @@ impl World {
         ensures kept { IfOk result (λ w. kept_of w ≡ opening_kept scenario.now.setup) }
         ensures at { IfOk result (IsAt scenario.now.setup) }
     {
-        let nodes = new_nodes(alloc, scenario)?;
+        let brokers = new_nodes(alloc, scenario)?;
         let clients = new_clients(alloc, scenario)?;
         let unused = Unused::of(alloc, scenario)?;
         Ok(World {
-            nodes,
+            brokers,
             clients,
             links: unused.links,
             broker_clocks: unused.broker_clocks,
@@ -79,26 +79,26 @@ impl Unused {
 fn new_nodes(alloc: Global, scenario: &Scenario) -> Result<Vec<Broker>, Memory>
     ensures { IfOk result (λ vs. AreNew scenario.now.setup (length scenario.now.setup.topics * length scenario.now.setup.clusters) vs.items) }
 {
-    let mut nodes = Vec::new(alloc);
+    let mut brokers = Vec::new(alloc);
     for topic in 0..scenario.topics().len() as u32 {
-        add_nodes(alloc, scenario, topic, &mut nodes)?;
+        add_nodes(alloc, scenario, topic, &mut brokers)?;
     }
-    Ok(nodes)
+    Ok(brokers)
 }
 
-/// The brokers of a topic, behind those of the topics before it.
+/// The brokers of a topic, after those of the topics before it.
 fn add_nodes(
     alloc: Global,
     scenario: &Scenario,
     topic: u32,
-    nodes: &mut Vec<Broker>,
+    brokers: &mut Vec<Broker>,
 ) -> Result<(), Memory>
     requires topic { topic < length scenario.now.setup.topics }
-    requires before { AreNew scenario.now.setup (topic * length scenario.now.setup.clusters) nodes.old.items }
-    ensures { OnOk result (AreNew scenario.now.setup ((topic + 1) * length scenario.now.setup.clusters) nodes.new.items) }
+    requires before { AreNew scenario.now.setup (topic * length scenario.now.setup.clusters) brokers.old.items }
+    ensures { OnOk result (AreNew scenario.now.setup ((topic + 1) * length scenario.now.setup.clusters) brokers.new.items) }
 {
     for cluster in 0..scenario.clusters().len() as u32 {
-        nodes.push(new_node(alloc, scenario, topic, cluster)?)?;
+        brokers.push(new_node(alloc, scenario, topic, cluster)?)?;
     }
     Ok(())
 }

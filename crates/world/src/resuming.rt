@@ -10,11 +10,11 @@ ghost use Rattle.state_items.specs.Fitting.{AllFit};
 ghost use Rattle.state_nodes.specs.Known.{IsKnownNode};
 ghost use Rattle.state_nodes.specs.Nodes.{broker_of};
 ghost use Rattle.world.specs.Saving.{AreRevived, IsResumed, IsRevived};
-ghost use Rattle.world_kept.specs.Saved.{world_from};
+ghost use Rattle.kept_laws.specs.Saved.{world_from};
 ghost use Rattle.world.specs.World.{IsAt, kept_of};
 ghost use Rattle.world_laws.specs.Starts.{most_at_start};
-ghost use Rattle.world_kept.specs.Reached.{Reached};
-ghost use Rattle.world_kept.specs.Standing.{Stands};
+ghost use Rattle.kept_laws.specs.Reached.{Reached};
+ghost use Rattle.kept_laws.specs.Standing.{Stands};
 
 use crate::opening::Unused;
 use crate::world::World;
@@ -42,10 +42,10 @@ impl World {
         let Saved {
             scenario,
             counts,
-            nodes,
+            brokers,
             clients,
         } = saved;
-        match resumed_world(alloc, &scenario, counts, nodes, clients) {
+        match resumed_world(alloc, &scenario, counts, brokers, clients) {
             Ok(world) => Ok((scenario, world)),
             Err(memory) => {
                 // by a call, so that the end of a scenario is proved by itself
@@ -64,15 +64,15 @@ fn resumed_world(
     parts: Vec<NodeParts>,
     states: Vec<ClientState>,
 ) -> Result<World, Memory>
-    requires { IsKnownState (state_of (record { scenario = scenario.now; counts = counts; nodes = parts; clients = states })) }
-    ensures resumed { IfOk result (IsResumed (state_of (record { scenario = scenario.now; counts = counts; nodes = parts; clients = states }))) }
+    requires { IsKnownState (state_of (record { scenario = scenario.now; counts = counts; brokers = parts; clients = states })) }
+    ensures resumed { IfOk result (IsResumed (state_of (record { scenario = scenario.now; counts = counts; brokers = parts; clients = states }))) }
     ensures known { OnOk result (IsScripted scenario.now.setup) }
 {
-    let nodes = revived_nodes(alloc, scenario, parts)?;
+    let brokers = revived_nodes(alloc, scenario, parts)?;
     let clients = resumed_clients(alloc, states)?;
     let unused = Unused::of(alloc, scenario)?;
     Ok(World {
-        nodes,
+        brokers,
         clients,
         links: unused.links,
         broker_clocks: unused.broker_clocks,
@@ -92,12 +92,12 @@ fn revived_nodes(
     requires count { length parts.items ≡ length scenario.now.setup.topics * length scenario.now.setup.clusters }
     ensures { IfOk result (λ vs. AreRevived scenario.now.setup (map broker_of parts.items) vs.items) }
 {
-    let mut nodes = Vec::new(alloc);
+    let mut brokers = Vec::new(alloc);
     for part in parts {
-        let number = nodes.len();
-        nodes.push(revived_node(alloc, scenario, number, part)?)?;
+        let number = brokers.len();
+        brokers.push(revived_node(alloc, scenario, number, part)?)?;
     }
-    Ok(nodes)
+    Ok(brokers)
 }
 
 /// The broker of a number from what is durable of it.

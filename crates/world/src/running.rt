@@ -6,8 +6,8 @@ ghost use Rattle.world.specs.Observing.{run_seen, step_seen};
 ghost use Rattle.world.specs.Runs.{Comes, at_world};
 ghost use Rattle.world.specs.World.{IsAt, kept_of};
 ghost use Rattle.script_text.specs.Scenario.{IsStep};
-ghost use Rattle.world_kept.specs.Standing.{Stands};
-ghost use Rattle.world_kept.specs.Reached.{Reached};
+ghost use Rattle.kept_laws.specs.Standing.{Stands};
+ghost use Rattle.kept_laws.specs.Reached.{Reached};
 
 use crate::fault::RunFault;
 use crate::observer::{Observer, Unobserved};
@@ -51,8 +51,8 @@ impl World {
             → Comes scenario.now.setup self.new (run_from all_limits scenario.now.setup (at_world w) steps.now) result }
         ensures at { IsAt scenario.now.setup self.new }
     {
-        for place in 0..steps.len() {
-            self.step_with(alloc, scenario, &steps.at(place), observer)?;
+        for broker_ref in 0..steps.len() {
+            self.step_with(alloc, scenario, &steps.at(broker_ref), observer)?;
         }
         Ok(())
     }

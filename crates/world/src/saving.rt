@@ -11,7 +11,7 @@ ghost use Rattle.state_nodes.specs.Writing.{HaveRests};
 ghost use Rattle.world.specs.declared.fault.RunFault.TheVariants as fault;
 ghost use Rattle.world.specs.Saving.{Saves, behind_stop};
 ghost use Rattle.world.specs.World.{IsAt, IsWithin, brokers_of, kept_of};
-ghost use Rattle.world_kept.specs.Standing.{Stands, limit_of};
+ghost use Rattle.kept_laws.specs.Standing.{Stands, limit_of};
 
 use crate::fault::RunFault;
 use crate::world::World;
@@ -27,7 +27,7 @@ use std::alloc::Global;
 #[derive(Drop)]
 struct StopParts {
     counts: Counts,
-    nodes: Vec<NodeParts>,
+    brokers: Vec<NodeParts>,
     clients: Vec<ClientState>,
 }
 
@@ -44,7 +44,7 @@ impl World {
             Ok(parts) => Ok(Saved {
                 scenario: scenario.without_steps(alloc),
                 counts: parts.counts,
-                nodes: parts.nodes,
+                brokers: parts.brokers,
                 clients: parts.clients,
             }),
             Err(fault) => {
@@ -59,18 +59,18 @@ impl World {
     fn parts_behind_stop(&self, alloc: Global) -> Result<StopParts, RunFault>
         requires { IsWithin self.now }
         ensures counts { IfOk result (λ v. v.counts ≡ record { events = self.now.events + 1; idle = self.now.idle; rounds = self.now.rounds; frame_bytes = self.now.frame_bytes }) }
-        ensures nodes { IfOk result (λ v. map broker_of v.nodes.items ≡ map behind_stop (brokers_of self.now.nodes)) }
-        ensures rests { IfOk result (λ v. All (λ (b : MachineBroker). HaveRests b.entries) (map broker_of v.nodes.items)) }
+        ensures brokers { IfOk result (λ v. map broker_of v.brokers.items ≡ map behind_stop (brokers_of self.now.brokers)) }
+        ensures rests { IfOk result (λ v. All (λ (b : MachineBroker). HaveRests b.entries) (map broker_of v.brokers.items)) }
         ensures clients { IfOk result (λ v. map stopped v.clients.items ≡ map unconnected self.now.clients) }
         ensures within { OnOk result (limit_of (self.now.events + 1) self.now.idle self.now.frame_bytes ≡ None) }
         ensures large { (n : ℕ) → result ≡ Err (fault.TooLarge n) → limit_of (self.now.events + 1) self.now.idle self.now.frame_bytes ≡ Some n }
     {
         self.one_more()?;
-        let nodes = saved_nodes(alloc, self.nodes.as_slice())?;
+        let brokers = saved_nodes(alloc, self.brokers.as_slice())?;
         let clients = saved_clients(alloc, self.clients.as_slice())?;
         Ok(StopParts {
             counts: self.counts_behind_stop(),
-            nodes,
+            brokers,
             clients,
         })
     }
@@ -89,19 +89,19 @@ impl World {
     }
 }
 
-/// What is durable of brokers behind a stop.
-fn saved_nodes(alloc: Global, nodes: &[Broker]) -> Result<Vec<NodeParts>, Memory>
-    ensures nodes { IfOk result (λ ps. map broker_of ps.items ≡ map behind_stop (brokers_of nodes.now)) }
+/// What is durable of brokers after a stop.
+fn saved_nodes(alloc: Global, brokers: &[Broker]) -> Result<Vec<NodeParts>, Memory>
+    ensures brokers { IfOk result (λ ps. map broker_of ps.items ≡ map behind_stop (brokers_of brokers.now)) }
     ensures rests { IfOk result (λ ps. All (λ (b : MachineBroker). HaveRests b.entries) (map broker_of ps.items)) }
 {
     let mut parts = Vec::new(alloc);
-    for node in nodes {
+    for node in brokers {
         parts.push(saved_node(alloc, node)?)?;
     }
     Ok(parts)
 }
 
-/// What is durable of a broker behind a stop: a new ledger is open.
+/// What is durable of a broker after a stop: a new ledger is open.
 fn saved_node(alloc: Global, node: &Broker) -> Result<NodeParts, Memory>
     ensures node { IfOk result (λ p. broker_of p ≡ behind_stop node.now.broker) }
     ensures rests { IfOk result (λ p. HaveRests p.entries.items) }

@@ -7,8 +7,8 @@ ghost use Rattle.world.specs.Runs.{Comes, at_world};
 ghost use Rattle.world.specs.Settling.{IsSettlingEvent, settled_by};
 ghost use Rattle.world.specs.Steps.{IsLater, Leads};
 ghost use Rattle.world.specs.World.{IsAt, IsWithin, SameWorld, kept_of};
-ghost use Rattle.world_kept.specs.Standing.{Stands};
-ghost use Rattle.world_kept.specs.Reached.{Reached};
+ghost use Rattle.kept_laws.specs.Standing.{Stands};
+ghost use Rattle.kept_laws.specs.Reached.{Reached};
 ghost use Rattle.world_laws.specs.Starts.{most_at_start};
 
 use crate::fault::RunFault;

@@ -14,8 +14,8 @@ ghost use Rattle.world.specs.Steps.{Leads};
 ghost use Rattle.world.specs.World.{IsAt, SameWorld, kept_of};
 ghost use Rattle.broker.specs.Node.{IsReady};
 ghost use Rattle.links.specs.Each.{Each};
-ghost use Rattle.world_kept.specs.Standing.{Stands};
-ghost use Rattle.world_kept.specs.Reached.{Reached};
+ghost use Rattle.kept_laws.specs.Standing.{Stands};
+ghost use Rattle.kept_laws.specs.Reached.{Reached};
 
 use crate::fault::RunFault;
 use crate::world::World;
@@ -38,7 +38,7 @@ impl World {
     {
         let _known = scenario.topics();
         self.one_more()?;
-        restart_all(alloc, self.nodes.as_mut_slice())?;
+        restart_all(alloc, self.brokers.as_mut_slice())?;
         disconnect_all(self.clients.as_mut_slice());
         self.links.discard_all();
         self.counts.events += 1;
@@ -47,11 +47,11 @@ impl World {
 }
 
 /// Starts brokers again: all of them, or none where memory is wanting.
-fn restart_all(alloc: Global, nodes: &mut [Broker]) -> Result<(), Memory>
-    ensures ok { OnOk result (Each IsRestarted nodes.old nodes.new) }
-    ensures err { OnErr result (Each IsSame nodes.old nodes.new) }
+fn restart_all(alloc: Global, brokers: &mut [Broker]) -> Result<(), Memory>
+    ensures ok { OnOk result (Each IsRestarted brokers.old brokers.new) }
+    ensures err { OnErr result (Each IsSame brokers.old brokers.new) }
 {
-    let Some((first, rest)) = nodes.split_first_mut() else {
+    let Some((first, rest)) = brokers.split_first_mut() else {
         return Ok(());
     };
     let mut plan = Plan::new(alloc);

@@ -3,7 +3,7 @@ ghost use Rattle.std.specs.Prelude.{◌≡◌, ◌<◌, ◌≤◌, ◌+◌, leng
 ghost use Rattle.geo_base.specs.World.{node};
 ghost use Rattle.script_text.specs.Scenario.{IsScenario};
 ghost use Rattle.world.specs.World.{AreNodes, IsAt, kept_of, node_at};
-ghost use Rattle.world_kept.specs.Kept.{opening_kept};
+ghost use Rattle.kept_laws.specs.Kept.{opening_kept};
 ghost use Rattle.world_laws.specs.Starts.{most_at_start};
 
 use broker::Broker;
@@ -21,7 +21,7 @@ use std::marker::Model;
 /// events are prepared in one plan, which the first of them makes and whose queues keep their memory; between events it is empty.
 #[derive(Drop)]
 pub struct World {
-    pub(crate) nodes: Vec<Broker>,
+    pub(crate) brokers: Vec<Broker>,
     pub(crate) clients: Vec<Client>,
     pub(crate) links: Links,
     pub(crate) broker_clocks: Vec<u64>,
@@ -33,12 +33,12 @@ pub struct World {
 impl Model for World {
     ghost use Rattle.std.specs.Prelude.{IfSome};
     ghost use Rattle.broker_state.specs.Plan.{IsEmptyPlan};
-    ghost use Rattle.world.specs.World.{WorldBook, WorldHolds};
+    ghost use Rattle.world.specs.World.{WorldView, WorldHolds};
 
-    ghost Value = { WorldBook };
+    ghost Value = { WorldView };
 
     ghost view = { λ w. record {
-      nodes = w.nodes.items;
+      brokers = w.brokers.items;
       clients = w.clients.items;
       links = w.links;
       broker_clocks = w.broker_clocks.items;
@@ -70,12 +70,12 @@ impl World {
 
     /// The broker of a topic at a cluster.
     pub fn topic(&self, scenario: &Scenario, topic: u32, cluster: u32) -> &Broker
-        requires nodes { AreNodes scenario.now.setup self.now.nodes }
+        requires brokers { AreNodes scenario.now.setup self.now.brokers }
         requires topic { topic < length scenario.now.setup.topics }
         requires cluster { cluster < length scenario.now.setup.clusters }
-        ensures { result.now ≡ node_at self.now.nodes (node scenario.now.setup topic cluster) }
+        ensures { result.now ≡ node_at self.now.brokers (node scenario.now.setup topic cluster) }
     {
-        &self.nodes[node_number(scenario, topic, cluster)]
+        &self.brokers[node_number(scenario, topic, cluster)]
     }
 
     /// The client of a number.

@@ -3,7 +3,7 @@ pub mod Fitting
 pub mod Awaited
 pub mod Waiting
 pub mod Live
-pub mod LiveSender
+pub mod LiveReplicator
 pub mod Backs
 pub mod LiveFrames
 pub mod LiveRounds

@@ -6,8 +6,8 @@ pub mod PairFacts
 pub mod SessionFacts
 pub mod Effects
 pub mod InARow
-pub mod SenderSide
-pub mod SenderEvents
+pub mod ReplicatorSide
+pub mod ReplicatorEvents
 pub mod ReceiverSide
 pub mod TakeEvents
 pub mod Reach

@@ -70,7 +70,7 @@ AreEven l = (v w : World) → AreAlike v w → l v ≡ l w
 abbrev pub world_on : Setup → World → List Step → Settling → World
 world_on s v es at = (settling_so_far no_limits s (run_from no_limits s (begun v) es) at).world
 
--- always in the run of es from v, which came behind other steps: between any two events, and after each single durable write of an
+-- always in the run of es from v, which came after other steps: between any two events, and after each single durable write of an
 -- event. What is settled by then, these other steps settled too
 pub record AlwaysOn (s : Setup) (v : World) (before es : List Step) (Holds : World → SettledSoFar → Type 0) : Type 0 where
   pub between : (k : ℕ) (at : Settling) → Holds (world_on s v (take k es) at) (settled s (before ++ take k es))
@@ -78,12 +78,12 @@ pub record AlwaysOn (s : Setup) (v : World) (before es : List Step) (Holds : Wor
       → let m : Moment = record { steps = before ++ take k es; settling = at; event = e; writes = writes } in
       let w = world_on s v (take k es) at in Holds (partly_written s w writes (planned s w e)) (settled_at no_limits s m)
 
--- the world that is loaded of what a file keeps of a script's run behind these steps and a stop
+-- the world that is loaded of what a file keeps of a script's run after these steps and a stop
 abbrev pub kept_behind : Setup → List Step → World
 kept_behind s es = resumed_world s (run s (es ++ step.Stop ∷ []))
 
 -- resumed. No event, halt, stop, step or settling tells worlds apart that are alike, nor does the report of a run. A world that was
--- stopped is alike to the one that is loaded of it; so a run that goes on there is alike to the one that went on behind the stop
+-- stopped is alike to the one that is loaded of it; so a run that goes on there is alike to the one that went on after the stop
 -- (`script` says it of a script's run, kept once). What is claimed always of a script's run holds always in a run that goes on from a
 -- world that is alike to where that one came
 pub record LawResumed : Type 0 where

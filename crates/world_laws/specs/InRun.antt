@@ -7,7 +7,7 @@ use Rattle.geo_base.specs.Setup.{Setup}
 use Rattle.world_laws.specs.Publishing.{AllAnswered, FewReceipts, IsChain, RepeatsStand}
 use Rattle.world_laws.specs.Residency.{IsMarked, IsResident}
 
--- always in it: each cluster has of each other one a beginning of what that has for it, what a sender counts as over there stands there,
+-- always in it: each cluster has of each other one a beginning of what that has for it, what a replicator counts as over there stands there,
 -- what stands or goes anywhere is meant for that place; and, of a script, what is published, receipted, given and got is one chain, each
 -- publish is answered for, a client counts no more receipts than it has entries, and where ids rise a duplicate's receipt is of what stands
 pub record IsCarriedIn (s : Setup) (es : List Step) : Type 0 where

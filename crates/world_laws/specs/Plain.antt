@@ -10,15 +10,15 @@ use Rattle.geo_base.specs.declared.frame.Frame.TheVariants as frame
 use Rattle.geo_base.specs.declared.marker.ClusterPosition.{ClusterPosition}
 use Rattle.geo_base.specs.declared.marker.Marker.{Marker}
 use Rattle.geo_base.specs.declared.marker.Marker.TheVariants as marker
-use Rattle.geo_base.specs.declared.marker.Place.{Place}
-use Rattle.geo_base.specs.declared.marker.Place.TheVariants as place
+use Rattle.geo_base.specs.declared.marker.ClusterRef.{ClusterRef}
+use Rattle.geo_base.specs.declared.marker.ClusterRef.TheVariants as cluster_ref
 use Rattle.geo_base.specs.Client.{target_names}
 use Rattle.geo_base.specs.Scripted.{names_some}
 
 -- a place is a cluster of these names
-abbrev pub IsCluster : List (List ℕ) → Place → Type 0
-IsCluster names (place.Known x) = x < length names
-IsCluster names (place.Stranger n) = ⊥
+abbrev pub IsCluster : List (List ℕ) → ClusterRef → Type 0
+IsCluster names (cluster_ref.Known x) = x < length names
+IsCluster names (cluster_ref.Stranger n) = ⊥
 
 abbrev pub AreClusters : List (List ℕ) → List ClusterPosition → Type 0
 AreClusters names rs = AllByRecursion (λ (r : ClusterPosition). IsCluster names r.cluster) rs
@@ -34,7 +34,7 @@ IsPlainContent names content.Data payload = Unit {0}
 IsPlainContent names (content.Marked m) [] = HasClusters names m
 IsPlainContent names c payload = ⊥
 
-pub record IsPlainEntry (names : List (List ℕ)) (source : Option Place) (e : Entry) : Type 0 where
+pub record IsPlainEntry (names : List (List ℕ)) (source : Option ClusterRef) (e : Entry) : Type 0 where
   pub listed : e.meta.names ≡ target_names 0 e.to names
   pub some : names_some (length names) e.to ≡ true
   pub from : IfSome source (IsCluster names)

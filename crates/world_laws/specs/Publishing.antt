@@ -6,7 +6,7 @@ use Rattle.geo_base.specs.declared.entry.Entry.{Entry}
 use Rattle.geo_base.specs.declared.entry.Ident.{Ident}
 use Rattle.geo_base.specs.declared.entry.Targets.{Targets}
 use Rattle.geo_base.specs.declared.frame.Frame.TheVariants as frame
-use Rattle.geo_base.specs.declared.marker.Place.{Place}
+use Rattle.geo_base.specs.declared.marker.ClusterRef.{ClusterRef}
 use Rattle.geo_base.specs.declared.packet.Packet.{Packet}
 use Rattle.geo_base.specs.declared.position.Position.{Position}
 use Rattle.geo_base.specs.Broker.{Broker}
@@ -15,7 +15,7 @@ use Rattle.geo_base.specs.Entry.{is_data, same_stream}
 use Rattle.geo_base.specs.Getting.{seq_of}
 use Rattle.geo_base.specs.Laws.{Always}
 use Rattle.geo_base.specs.Offering.{source_of}
-use Rattle.geo_base.specs.Position.{nowhere, same_position}
+use Rattle.geo_base.specs.Position.{no_position, same_position}
 use Rattle.geo_base.specs.Safe.{IsEntry}
 use Rattle.geo_base.specs.Scripted.{IsScripted}
 use Rattle.geo_base.specs.Setup.{Declared, Setup, declared_at}
@@ -74,7 +74,7 @@ pub record IsReached (b : Broker) (i : Ident) : Type 0 where
 pub record ReceiptHolds (b : Broker) (i : Ident) (o : Option Position) : Type 0 where
   pub position : Position
   pub told : o ≡ Some position
-  pub stored : same_position position nowhere ≡ false → StandsAt b i position
+  pub stored : same_position position no_position ≡ false → StandsAt b i position
   pub reached : IsReached b i
 
 -- each that a client was ever sent, taken or not, on whatever connection, comes from the cluster where it is declared
@@ -86,7 +86,7 @@ ReceiptsHold s w = (c x i : ℕ) (p : Packet) (id seq : ℕ) (o : Option Positio
 -- WHAT IS GIVEN STANDS
 
 -- what a MESSAGE says: this very entry, a message, stands at its position there, and the cluster that it names as its source stored it first
-pub record MessageHolds (b : Broker) (x : ℕ) (p : Position) (source : Option Place) (e : Entry) : Type 0 where
+pub record MessageHolds (b : Broker) (x : ℕ) (p : Position) (source : Option ClusterRef) (e : Entry) : Type 0 where
   pub index : ℕ
   pub stands : IsEntry b index e
   pub at : index_of b.ledgers p ≡ Some index
@@ -95,7 +95,7 @@ pub record MessageHolds (b : Broker) (x : ℕ) (p : Position) (source : Option P
 
 -- each that a client was ever sent, taken or not
 abbrev pub MessagesHold : Setup → World → Type 0
-MessagesHold s w = (c x i : ℕ) (q : Packet) (id : ℕ) (p : Position) (source : Option Place) (e : Entry) → c < length s.clients → x < length s.clusters
+MessagesHold s w = (c x i : ℕ) (q : Packet) (id : ℕ) (p : Position) (source : Option ClusterRef) (e : Entry) → c < length s.clients → x < length s.clusters
     → slice_get (link_at w.links (ToClient c x)).sent i ≡ Some q → q.frame ≡ frame.Message id p source e
     → MessageHolds (topic_at s w (declared_at s c).topic x) x p source e
 

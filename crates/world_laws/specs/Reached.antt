@@ -85,8 +85,8 @@ pub record MayBeKept (s : Setup) (w : World) : Type 0 where
   pub counts : AreStartCounts w
 
 -- reached: the opening world is a start; a run comes to worlds alone that are reached from where it starts; and in each of these
--- there is what the next event needs, and what a file that keeps the run needs. What is kept of a run behind a stop is a start again,
--- while its counts are such as a start may have; as they are behind the steps of every script
+-- there is what the next event needs, and what a file that keeps the run needs. What is kept of a run after a stop is a start again,
+-- while its counts are such as a start may have; as they are after the steps of every script
 pub record LawReached : Type 0 where
   pub opening : (s : Setup) → IsStart s (opening_world s)
   pub comes : (s : Setup) → BetweenEvents s (ReachedFrom s (opening_world s))

@@ -1,4 +1,4 @@
--- The worlds that a run may start from: the opening world, and what a file keeps of a run's world behind a stop of everything.
+-- The worlds that a run may start from: the opening world, and what a file keeps of a run's world after a stop of everything.
 -- Stored entries need not be plain there: a file may hold any entry that can be read (own).
 use Rattle.std.specs.Prelude.{◌≡◌, ℕ, ◌+◌, ◌%◌, ◌<◌, ◌≤◌, true, List, [], ◌∷◌, ◌++◌, length}
 use Rattle.std.specs.List.{AllByRecursion}
@@ -9,7 +9,7 @@ use Rattle.geo_base.specs.Client.{Client, unconnected}
 use Rattle.geo_base.specs.Entry.{is_own_marker}
 use Rattle.geo_base.specs.Name.{is_name}
 use Rattle.geo_base.specs.Run.{most_events, most_sent_bytes}
-use Rattle.geo_base.specs.Sender.{Sender}
+use Rattle.geo_base.specs.Replicator.{Replicator}
 use Rattle.geo_base.specs.Setup.{Setup}
 use Rattle.geo_base.specs.Subscription.{Subscription}
 use Rattle.geo_base.specs.Topic.{accepts, next_marker}
@@ -22,14 +22,14 @@ use Rattle.world_laws.specs.Indexes.{AllHaveIndexes}
 abbrev pub most_at_start : ℕ
 most_at_start = 4294967296
 
--- an entry behind those before it in a topic of cluster own: one of these clusters stored it first, no entry before it stands in
+-- an entry after those before it in a topic of cluster own: one of these clusters stored it first, no entry before it stands in
 -- its way, and an own marker has the number after those of all before
 pub record IsNextStored (clusters own : ℕ) (before : List Entry) (e : Entry) : Type 0 where
   pub origin : e.ident.origin < clusters
   pub new : accepts before e.ident ≡ true
   pub marker : is_own_marker own e ≡ true → e.ident.seq ≡ next_marker own before
 
--- each entry behind those before it
+-- each entry after those before it
 abbrev pub AreStored : ℕ → ℕ → List Entry → List Entry → Type 0
 AreStored clusters own before [] = Unit {0}
 AreStored clusters own before (e ∷ es) = IsNextStored clusters own before e × AreStored clusters own (before ++ e ∷ []) es
@@ -42,7 +42,7 @@ pub record IsStartSub (v : Subscription) : Type 0 where
 pub record IsStartBroker (clusters own : ℕ) (b : Broker) : Type 0 where
   pub few : length b.entries ≤ most_at_start
   pub entries : AreStored clusters own [] b.entries
-  pub senders : AllByRecursion (λ (v : Sender). v.session ≤ most_at_start) b.senders
+  pub replicators : AllByRecursion (λ (v : Replicator). v.session ≤ most_at_start) b.replicators
   pub subs : AllByRecursion IsStartSub b.subs
   pub at_rest : changed b change.Forget ≡ b
 

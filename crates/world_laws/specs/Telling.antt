@@ -61,7 +61,7 @@ pub record AlwaysToldIn (tells : Telling) (s : Setup) (es : List Step) (Holds : 
   pub moment : (k : ℕ) (at : Settling) (e : Event) (writes : ℕ)
       → let m : Moment = record { steps = take k es; settling = at; event = e; writes = writes } in Holds (world_at no_limits s m) (told_at tells no_limits s m)
 
--- always, in the run of es from v, which came behind other steps, as AlwaysOn is of what is settled; these other steps told too
+-- always, in the run of es from v, which came after other steps, as AlwaysOn is of what is settled; these other steps told too
 pub record AlwaysToldOn (tells : Telling) (s : Setup) (v : World) (before es : List Step) (Holds : World → SettledSoFar → Type 0) : Type 0 where
   pub between : (k : ℕ) (at : Settling) → Holds (world_on s v (take k es) at) (told_under tells no_limits s (before ++ take k es))
   pub moment : (k : ℕ) (at : Settling) (e : Event) (writes : ℕ)

@@ -8,19 +8,19 @@ use Rattle.geo_base.specs.Client.{Client}
 use Rattle.geo_base.specs.Laws.{BetweenEvents, IsShort}
 use Rattle.geo_base.specs.Link.{Link}
 use Rattle.geo_base.specs.Scripted.{IsScripted}
-use Rattle.geo_base.specs.Sender.{Sender, new_sender}
+use Rattle.geo_base.specs.Replicator.{Replicator, new_replicator}
 use Rattle.geo_base.specs.Setup.{Setup}
 use Rattle.geo_base.specs.Subscription.{Subscription}
 use Rattle.geo_base.specs.Topic.{next_marker}
 use Rattle.geo_base.specs.World.{LinkName, World, broker_at, client_at, link_at, topic_at}
 
--- of a sender: its session, and the next number in it
-pub record SenderWithin (n : ℕ) (s : Sender) : Type 0 where
+-- of a replicator: its session, and the next number in it
+pub record ReplicatorWithin (n : ℕ) (s : Replicator) : Type 0 where
   pub session : s.session ≤ n
   pub next : s.next ≤ n
 
-abbrev pub SendersWithin : ℕ → List Sender → Type 0
-SendersWithin n ss = (y : ℕ) → SenderWithin n (slice_index_or ss y new_sender)
+abbrev pub ReplicatorsWithin : ℕ → List Replicator → Type 0
+ReplicatorsWithin n ss = (y : ℕ) → ReplicatorWithin n (slice_index_or ss y new_replicator)
 
 -- of a client: its connection, and the counts of what came
 pub record ClientWithin (n : ℕ) (k : Client) : Type 0 where
@@ -35,7 +35,7 @@ StampsWithin n l = (i : ℕ) (p : Packet) → slice_get l.sent i ≡ Some p → 
 
 pub record WorldWithin (s : Setup) (n : ℕ) (w : World) : Type 0 where
   pub count : w.events + w.idle ≤ n
-  pub senders : (z : ℕ) → SendersWithin n (broker_at w z).senders
+  pub replicators : (z : ℕ) → ReplicatorsWithin n (broker_at w z).replicators
   pub clients : (c : ℕ) → ClientWithin n (client_at s w c)
   pub broker_clocks : (z : ℕ) → slice_index w.broker_clocks z ≤ n
   pub client_clocks : (c : ℕ) → slice_index w.client_clocks c ≤ n
@@ -47,7 +47,7 @@ SeeksWithin n vs = AllByRecursion (λ (v : Subscription). v.seeks ≤ n) vs
 
 -- the numbers of a broker
 pub record BrokerWithin (n : ℕ) (b : Broker) : Type 0 where
-  pub senders : SendersWithin n b.senders
+  pub replicators : ReplicatorsWithin n b.replicators
   pub seeks : SeeksWithin n b.subs
 
 -- numbers: none that rises with events is above a bound
@@ -62,7 +62,7 @@ pub record NumbersWithin (s : Setup) (n : ℕ) (w : World) : Type 0 where
 abbrev pub LawNumbers : Type 0
 LawNumbers = (s : Setup) → BetweenEvents s (λ w. NumbersWithin s w.events w)
 
--- markers: the number of a cluster's next own marker has 64 bits, and so has the one behind it
+-- markers: the number of a cluster's next own marker has 64 bits, and so has the one after it
 abbrev pub MarkersRise : Setup → World → Type 0
 MarkersRise s w = (t x : ℕ) → t < length s.topics → x < length s.clusters → next_marker x (topic_at s w t x).entries + 1 < 2 ^ 64
 

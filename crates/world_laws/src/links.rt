@@ -9,7 +9,7 @@ pub fn law_plain()
     ensures always { LawPlain }
 {}
 
-/// No frame that is sent is larger than a link carries (5,253,120 bytes behind the four of its size), and no entry that is
+/// No frame that is sent is larger than a link carries (5,253,120 bytes after the four of its size), and no entry that is
 /// stored is larger than a topic stores (5,242,880 bytes). At the end of every run, also of one that a limit ends, and at
 /// every moment of it, also inside settling and after each single durable write, for every setup that a script can declare
 /// and every list of steps, in runs of fewer than 2^62 events (beyond, an id may take any number of digits).

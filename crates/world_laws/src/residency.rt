@@ -1,4 +1,4 @@
-//! Where messages stand and go, and what a sender's mark says.
+//! Where messages stand and go, and what a replicator's mark says.
 ghost use Rattle.world_laws.specs.InRun.{LawInRun};
 ghost use Rattle.world_laws.specs.Residency.{LawMarked, LawResident};
 

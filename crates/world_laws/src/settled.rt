@@ -17,7 +17,7 @@ pub fn law_update()
 /// can declare and in runs of fewer than 2^62 events; of two entries of the same origin and producer in a topic the earlier has
 /// the smaller sequence id: both at the end of every run, also of one that a limit ends, and at every moment of it, also inside
 /// settling and after each single durable write. And each index outside a cursor is out with a consumer that is attached, due
-/// again, or still to be read, and none inside is out or due again: between any two events (memory changes behind the durable
+/// again, or still to be read, and none inside is out or due again: between any two events (memory changes after the durable
 /// writes).
 pub fn law_safe()
     ensures safe { LawSafe }

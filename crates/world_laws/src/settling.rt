@@ -11,7 +11,7 @@ pub fn law_settles_in_time()
 {}
 
 /// Settling ends in time, as `law_settles_in_time` says, and then all has come over: for every topic and every two clusters the
-/// sender of the one to the other is open and has acknowledged every index of its topic, and the other has, in order, all that
+/// replicator of the one to the other is open and has acknowledged every index of its topic, and the other has, in order, all that
 /// the one stored first and has for it. The second part is of setups that a script can declare, and of runs that come to fewer
 /// than 2^62 events with the settling (beyond, an id may be too long for an entry that is stored); it holds from the same worlds
 /// as the first.

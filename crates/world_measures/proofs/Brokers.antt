@@ -3,33 +3,33 @@ use Rattle.std.proofs.Common.{◌≡◌, ◌≢◌, ℕ, ◌<◌, ◌==◌, Bool
 use Rattle.std.proofs.lemmas.Bool.{eq-eqb, ne_eqb}
 use Rattle.std.proofs.lemmas.List.{append-nil, get_or-map}
 use Rattle.std.specs.Prelude.{slice_index_or}
-use Rattle.broker.specs.Node.{BrokerBook}
+use Rattle.broker.specs.Node.{BrokerView}
 use Rattle.geo_base.specs.Broker.{Broker, Site, no_broker}
 use Rattle.geo_base.specs.Report.{with_line_feeds}
 use Rattle.geo_base.specs.Setup.{Setup}
 use Rattle.geo_base.specs.World.{World, node, topic_at}
-use Rattle.world.specs.World.{IsAt, WorldBook, no_node, node_at}
+use Rattle.world.specs.World.{IsAt, WorldView, no_node, node_at}
 use Rattle.world_laws.proofs.Replicating.Sizes.{node_lt}
 use Rattle.loss_laws.specs.LostLines.{lines_at, other_lines}
 use Rattle.world_measures.specs.Worlds.{HasBrokers}
 
-module _ (s : Setup) (b : WorldBook) (at : IsAt s b) (t x : ℕ) (topic : t < length s.topics) (cluster : x < length s.clusters) where
-  abbrev broker : BrokerBook
-  broker = node_at b.nodes (node s t x)
+module _ (s : Setup) (b : WorldView) (at : IsAt s b) (t x : ℕ) (topic : t < length s.topics) (cluster : x < length s.clusters) where
+  abbrev broker : BrokerView
+  broker = node_at b.brokers (node s t x)
 
-  in_nodes : node s t x < length b.nodes
-  in_nodes = subst (λ (m : ℕ). node s t x < m) (sym at.nodes.count) (node_lt s t x (topic, cluster))
+  in_nodes : node s t x < length b.brokers
+  in_nodes = subst (λ (m : ℕ). node s t x < m) (sym at.brokers.count) (node_lt s t x (topic, cluster))
 
   pub broker_there : (w : World) → HasBrokers w b → broker.broker ≡ topic_at s w t x
   broker_there w same =
-      sym (get_or-map (λ (v : BrokerBook). v.broker) b.nodes (node s t x) no_node no_broker in_nodes)
+      sym (get_or-map (λ (v : BrokerView). v.broker) b.brokers (node s t x) no_node no_broker in_nodes)
       ∙ ap (λ (bs : List Broker). slice_index_or bs (node s t x) no_broker) (sym same)
 
   pub clusters_there : broker.site.clusters ≡ s.clusters
-  clusters_there = ap (λ (h : Site). h.clusters) (at.nodes.each t x topic cluster).site
+  clusters_there = ap (λ (h : Site). h.clusters) (at.brokers.each t x topic cluster).site
 
   pub own_there : broker.site.own ≡ x
-  own_there = ap (λ (h : Site). h.own) (at.nodes.each t x topic cluster).site
+  own_there = ap (λ (h : Site). h.own) (at.brokers.each t x topic cluster).site
 
 -- ---- the lines of a cluster, from what its brokers are
 

@@ -18,7 +18,7 @@ pub each_added : {X : Type 0} (f : ℕ → X → List (List ℕ)) (xs : List X) 
 each_added f xs i x old new whole here added before =
     lines_added old new whole (f i x) (lines_of_each f (i + 1) (drop (i + 1) xs)) added (rw (drop_here xs i x here) at before)
 
--- and behind the last one there are none
+-- and after the last one there are none
 pub each_all : {X : Type 0} (f : ℕ → X → List (List ℕ)) (xs : List X) (i : ℕ) (new whole : List ℕ) → length xs ≤ i
     → new ++ with_line_feeds (lines_of_each f i (drop i xs)) ≡ whole → new ≡ whole
 each_all f xs i new whole past before = sym (append-nil new) ∙ (rw (drop_of_length-le xs past) at before)
@@ -39,7 +39,7 @@ sub_added names clusters b c n place v old mid new replicated first second =
     let whole : new ≡ old ++ with_line_feeds (ls ++ l ∷ []) = rw (second, first, append_assoc, with_line_feeds-append ls (l ∷ [])) refl in
     subst (λ (r : Bool). new ≡ old ++ with_line_feeds (if r then ls ++ l ∷ [] else [])) (sym replicated) whole
 
--- lines behind lines
+-- lines after lines
 pub joined : (old mid new : List ℕ) (ls ms : List (List ℕ)) → mid ≡ old ++ with_line_feeds ls → new ≡ mid ++ with_line_feeds ms → new ≡ old ++ with_line_feeds (ls ++ ms)
 joined old mid new ls ms first second = rw (second, first, append_assoc, with_line_feeds-append ls ms) refl
 

@@ -14,6 +14,7 @@ use Rattle.world_laws.proofs.OnceInOrder.Members.{below_or}
 use Rattle.loss_laws.specs.Lost.{place_from}
 use Rattle.world_measures.specs.declared.identity.Identity.{Identity}
 use Rattle.world_measures.specs.Places.{Row, Tells, identity_of, is_identity, place_in}
+use Rattle.geo_base.proofs.Bools.{ifs_swap}
 
 -- ---- identities
 
@@ -45,11 +46,6 @@ one_test false false x y z e = refl
 one_test true false x y z e = absurd (false≢true (sym e))
 one_test false true x y z e = absurd (false≢true e)
 
-other_way : (a b : Bool) (x y z : Option ℕ) → (a ≡ true → b ≡ true → ⊥) → (if a then x else if b then y else z) ≡ (if b then y else if a then x else z)
-other_way true true x y z h = absurd (h refl refl)
-other_way true false x y z h = refl
-other_way false b x y z h = refl
-
 -- what a row more leaves of the answers
 pub place_noted : (rows : List Row) (k : Identity) (v : ℕ) (q : Identity) → place_in (insert_entry is_identity rows k v) q ≡ (if is_identity q k then Some v else place_in rows q)
 place_noted [] k v q = refl
@@ -63,7 +59,7 @@ place_noted (r ∷ rows) k v q = by (is_identity k r.0) refl (place_noted rows k
     by true e ih = one_test (is_identity q r.0) (is_identity q k) (Some v) (Some r.1) (place_in rows q) (right e)
     by false e ih =
         ap (λ (o : Option ℕ). if is_identity q r.0 then Some r.1 else o) ih
-        ∙ other_way (is_identity q r.0) (is_identity q k) (Some r.1) (Some v) (place_in rows q)
+        ∙ ifs_swap (is_identity q r.0) (is_identity q k) (Some r.1) (Some v) (place_in rows q)
         (λ a b.
         let p = same_parts q r.0 a in let s = same_parts q k b in
         false≢true (sym e ∙ identity_from k r.0 (record { origin = sym s.origin ∙ p.origin; producer = sym s.producer ∙ p.producer; seq = sym s.seq ∙ p.seq })))

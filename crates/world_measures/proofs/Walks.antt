@@ -19,6 +19,7 @@ use Rattle.topic_store.specs.Messages.{is_message, messages_before}
 use Rattle.loss_laws.specs.Lost.{asked_behind, asked_from, backlog_at, counted, last_update, or_before, passed_in, untold_from, update_in}
 use Rattle.world_measures.specs.Snapshots.{told_at, told_by}
 use Rattle.world_measures.proofs.Choosing.{take_more}
+use Rattle.geo_base.proofs.Bools.{and_no_second}
 
 -- one more cluster
 pub one_cluster : (p : ℕ → Bool) (c n : ℕ) → c < n → list_any p (range_with_len c (n - c)) ≡ (p c || list_any p (range_with_len (c + 1) (n - (c + 1))))
@@ -36,16 +37,11 @@ something [] i l h = omega (arith, l)
 something (x ∷ xs) zero l h = cc
 something (x ∷ xs) (suc i) l h = something xs i (omega (arith, l)) h
 
--- of other lengths
-false_behind : (b c : Bool) → c ≡ false → (b && c) ≡ false
-false_behind true c h = h
-false_behind false c h = refl
-
 pub pairs_differ : (ps qs : List ClusterPosition) → length ps ≢ length qs → same_pairs ps qs ≡ false
 pairs_differ [] [] differ = absurd (differ refl)
 pairs_differ [] (q ∷ qs) differ = refl
 pairs_differ (p ∷ ps) [] differ = refl
-pairs_differ (p ∷ ps) (q ∷ qs) differ = false_behind (same_pair p q) (same_pairs ps qs) (pairs_differ ps qs (λ e. differ (ap suc e)))
+pairs_differ (p ∷ ps) (q ∷ qs) differ = and_no_second (same_pair p q) (same_pairs ps qs) (pairs_differ ps qs (λ e. differ (ap suc e)))
 
 -- one more entry of the rest
 pub next_asked : (x : ℕ) (b : Bool) (es : List Entry) (i : ℕ) (e : Entry) → slice_get es i ≡ Some e

@@ -1,6 +1,6 @@
 //! What is asked.
 
-/// Which cluster goes, by its number, and whether the messages are named behind their numbers.
+/// Which cluster goes, by its number, and whether the messages are named after their numbers.
 #[derive(Clone, Copy, Drop)]
 pub struct Gone {
     pub cluster: u32,

@@ -1,9 +1,9 @@
 //! Whether two markers name the same positions of the same clusters.
 ghost use Rattle.std.specs.Prelude.{◌≡◌};
-ghost use Rattle.geo_base.specs.Audit.{same_pair, same_pairs, same_place};
+ghost use Rattle.geo_base.specs.Audit.{same_pair, same_pairs, same_cluster_ref};
 ghost use Rattle.geo_base.specs.Position.{same_position};
 
-use geo_base::{ClusterPosition, Place, Position};
+use geo_base::{ClusterPosition, ClusterRef, Position};
 
 pub(crate) fn are_same_pairs(pairs: &[ClusterPosition], others: &[ClusterPosition]) -> bool
     ensures { result ≡ same_pairs pairs.now others.now }
@@ -25,12 +25,13 @@ fn is_same_pair(pair: &ClusterPosition, other: &ClusterPosition) -> bool
     is_same_place(&pair.cluster, &other.cluster) && is_same_position(pair.position, other.position)
 }
 
-fn is_same_place(place: &Place, other: &Place) -> bool
-    ensures { result ≡ same_place place.now other.now }
+fn is_same_place(place: &ClusterRef, other: &ClusterRef) -> bool
+    ensures { result ≡ same_cluster_ref place.now other.now }
 {
     match (place, other) {
-        (Place::Known(cluster), Place::Known(other)) => *cluster == *other,
-        (Place::Stranger(name), Place::Stranger(other)) => name.as_bytes() == other.as_bytes(),
+        (ClusterRef::Known(cluster), ClusterRef::Known(other)) => *cluster == *other,
+        (ClusterRef::Stranger(name), ClusterRef::Stranger(other)) => name.as_bytes()
+            == other.as_bytes(),
         _ => false,
     }
 }

@@ -11,7 +11,7 @@ use broker_subs::Sub;
 use geo_base::{ClusterPosition, Content, Entry, EntryStore, Marker, Position, Sequence};
 use topic_store::TopicLedger;
 
-/// How many snapshots of a cluster a subscription's mark-delete has passed there, behind the last one that an update of it tells.
+/// How many snapshots of a cluster a subscription's mark-delete has passed there, after the last one that an update of it tells.
 pub(crate) fn untold(source: u32, broker: &Broker, sub: &Sub) -> u64
     ensures { result ≡ untold source broker.now.broker sub.now.sub }
 {

@@ -3,7 +3,7 @@
     proves      src/passing.rs:15 runs: { 0 }       the body meets the contract
     no-ensures  src/passing.rs:90 look()            the function has no clause, so any body does
     untested    src/passing.rs:40 apply()           no body could be judged
-    plants crate=sub_update planted-in=3 .. not-run=0
+    plants crate=replicated_subs planted-in=3 .. not-run=0
 """
 import collections
 import re

@@ -5,7 +5,7 @@ use geo_base::{Ident, Position};
 #[derive(Drop)]
 pub enum ClientChange {
     /// The line is done, and nothing else changes.
-    Passes,
+    LineDone,
     /// The line is the `produce` line in force from now on.
     Produces,
     /// The line publishes, and its receipt is awaited.

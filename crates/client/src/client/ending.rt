@@ -83,7 +83,7 @@ impl Client {
     {
         Plan::sends(
             alloc,
-            ClientChange::Passes,
+            ClientChange::LineDone,
             self.connection().to_broker(Frame::Ping),
         )
     }

@@ -18,7 +18,7 @@ use crate::client::Client;
 use crate::held::HeldTable;
 use crate::site::ClientSite;
 use frame_values::{number_of, read_value};
-use geo_base::{Entry, Frame, Held, Ident, Line, Memory, Place, Position, ProducerName};
+use geo_base::{ClusterRef, Entry, Frame, Held, Ident, Line, Memory, Position, ProducerName};
 use message_meta::MetaView;
 use pulsar_commands::CommandView;
 use pulsar_frames::{FrameView, MessageView, usual_frame};
@@ -238,7 +238,7 @@ impl Client {
         alloc: Global,
         id: u64,
         position: Position,
-        source: &Option<Place>,
+        source: &Option<ClusterRef>,
         entry: &Entry,
     ) -> Result<(), Memory>
         ensures ok { OnOk result (self.new ≡ got_message self.old id position source.now entry.now) }
@@ -246,8 +246,8 @@ impl Client {
     {
         let origin = match source {
             None => self.cluster,
-            Some(Place::Known(cluster)) => *cluster,
-            Some(Place::Stranger(_)) => return Ok(()),
+            Some(ClusterRef::Known(cluster)) => *cluster,
+            Some(ClusterRef::Stranger(_)) => return Ok(()),
         };
         self.receive(
             alloc,
@@ -343,7 +343,7 @@ fn is_line(line: Option<usize>, id: u64) -> bool
     }
 }
 
-/// Whether a receipt's position is the one of what stands nowhere.
+/// Whether a receipt's position is the one of what stands no_position.
 fn is_duplicate(position: Option<Position>) -> bool
     ensures { result ≡ is_duplicate position }
 {

@@ -6,9 +6,9 @@ use Rattle.std.specs.Str.{bytes_eq}
 use Rattle.std.proofs.lemmas.Bool.{eq-eqb, eqb-true, false≢true}
 use Rattle.std.proofs.lemmas.Option.{same_Some, slice_get_within}
 use Rattle.std.proofs.lemmas.Slice.Eq.{bytes_eq-Decides}
-use Rattle.world_laws.proofs.Types.{Entry, Frame, Held, Ident, Line, Packet, Place, Position, SubKind}
+use Rattle.world_laws.proofs.Types.{Entry, Frame, Held, Ident, Line, Packet, ClusterRef, Position, SubKind}
 use Rattle.world_laws.proofs.Types.frame
-use Rattle.world_laws.proofs.Types.place
+use Rattle.world_laws.proofs.Types.cluster_ref
 use Rattle.geo_base.specs.Broker.{Broker}
 use Rattle.geo_base.specs.Client.{Client, id_of}
 use Rattle.geo_base.specs.Entry.{same_ident, with_origin}
@@ -107,8 +107,8 @@ frame_leaves d k (frame.SendReceipt id n p) Q new = counted_leaves k _ Q (answer
 frame_leaves d k (frame.SendError id n code) Q new = counted_leaves k _ Q (answered_keeps d k n (with_error k) (error_keeps k))
 frame_leaves d k (frame.Error request code) Q new = counted_leaves k _ Q (error_keeps k)
 frame_leaves d k (frame.Message id p None e) Q new = received_leaves k id _ p Q new
-frame_leaves d k (frame.Message id p (Some (place.Known x)) e) Q new = received_leaves k id _ p Q new
-frame_leaves d k (frame.Message id p (Some (place.Stranger name)) e) Q new = counted_leaves k k Q (same_counted k)
+frame_leaves d k (frame.Message id p (Some (cluster_ref.Known x)) e) Q new = received_leaves k id _ p Q new
+frame_leaves d k (frame.Message id p (Some (cluster_ref.Stranger name)) e) Q new = counted_leaves k k Q (same_counted k)
 frame_leaves d k f Q new = counted_leaves k k Q (same_counted k)
 
 -- ---- what a message adds to what was got
@@ -130,7 +130,7 @@ received_adds k id i p sub =
 message_adds : (k : Client) (id x : ℕ) (p : Position) (e : Entry) → k.cluster ≡ x → k.sub ≡ Some id → Adds k (got_message k id p (source_of x e) e) e.ident
 message_adds k id x p e here sub = by (e.ident.origin == x) refl
   where
-    by : (t : Bool) → (e.ident.origin == x) ≡ t → Adds k (got_message k id p (if t then None else Some (place.Known e.ident.origin)) e) e.ident
+    by : (t : Bool) → (e.ident.origin == x) ≡ t → Adds k (got_message k id p (if t then None else Some (cluster_ref.Known e.ident.origin)) e) e.ident
     by true own =
         let same : k.cluster ≡ e.ident.origin = here ∙ sym (eqb-true e.ident.origin x own) in
         let ident : (with_origin k.cluster e).ident ≡ e.ident = λ i. record { origin = same i; producer = e.ident.producer; seq = e.ident.seq } in
@@ -146,7 +146,7 @@ ident_itself i =
     both _ (i.seq == i.seq) (both (i.origin == i.origin) (bytes_eq i.producer i.producer) (eq-eqb i.origin i.origin refl) ((bytes_eq-Decides i.producer i.producer).1 refl)) (eq-eqb i.seq i.seq refl)
 
 -- so it is told by the get
-pub got_is : (d : Declared) (k : Client) (p : Packet) (id x : ℕ) (position : Position) (source : Option Place) (e : Entry) (n : List ℕ) (kind : SubKind) → p.session ≡ k.connection
+pub got_is : (d : Declared) (k : Client) (p : Packet) (id x : ℕ) (position : Position) (source : Option ClusterRef) (e : Entry) (n : List ℕ) (kind : SubKind) → p.session ≡ k.connection
     → p.frame ≡ frame.Message id position source e → source ≡ source_of x e → k.cluster ≡ x → k.sub ≡ Some id → IsKindLine d id n kind
     → list_any (same_ident e.ident) (got_by d k (Some p) n) ≡ true
 unfolding get
@@ -165,7 +165,7 @@ got_is d k p id x position source e n kind current is from here sub line =
     adds =
         subst (λ (c : Client). Adds k c e.ident) (sym (on_true (p.session == k.connection) (got_frame d k p.frame) k (eq-eqb p.session k.connection current)))
         (subst (λ (f : Frame). Adds k (got_frame d k f) e.ident) (sym is)
-        (subst (λ (o : Option Place). Adds k (got_frame d k (frame.Message id position o e)) e.ident) (sym from) (message_adds k id x position e here sub)))
+        (subst (λ (o : Option ClusterRef). Adds k (got_frame d k (frame.Message id position o e)) e.ident) (sym from) (message_adds k id x position e here sub)))
 
     whole : got_by d k (Some p) n ≡ e.ident ∷ []
     whole = on_true (subs_to d k.sub n) (drop (length k.got) j.got) [] subs ∙ ap (drop (length k.got)) adds.is ∙ drop_got k.got e.ident
@@ -235,7 +235,7 @@ may_more told more t b d id p inc h n kind line =
       before = λ one j e lt at message. inc t n e (r.before one j e lt at message);
     }
 
--- the client, behind the get of packet p
+-- the client, after the get of packet p
 pub record GetDone (more : SettledSoFar) (t x : ℕ) (b : Broker) (d : Declared) (k j : Client) (sent : List Packet) (l : Link) : Type 0 where
   pub keeps : GetKeeps k j
   pub link : LinkFact more t x b d j sent (took l)

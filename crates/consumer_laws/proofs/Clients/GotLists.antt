@@ -9,7 +9,7 @@ use Rattle.world_laws.proofs.Types.{Entry, Event, Frame, Held, Ident, Line, Pack
 use Rattle.world_laws.proofs.Types.event
 use Rattle.world_laws.proofs.Types.frame
 use Rattle.world_laws.proofs.Types.line
-use Rattle.world_laws.proofs.Types.place
+use Rattle.world_laws.proofs.Types.cluster_ref
 use Rattle.geo_base.specs.Broker.{Broker, session_at}
 use Rattle.geo_base.specs.Client.{Acted, Client, new_client, reconnect, unconnected}
 use Rattle.geo_base.specs.Entry.{same_ident}
@@ -89,8 +89,8 @@ frame_has d k (frame.SendReceipt id n q) p h = on_if (Has p) (list_any (publishe
 frame_has d k (frame.SendError id n code) p h = on_if (Has p) (list_any (publishes d n) k.unanswered) _ _ h h
 frame_has d k (frame.Error request code) p h = h
 frame_has d k (frame.Message id q None e) p h = received_has k id _ q p h
-frame_has d k (frame.Message id q (Some (place.Known x)) e) p h = received_has k id _ q p h
-frame_has d k (frame.Message id q (Some (place.Stranger name)) e) p h = h
+frame_has d k (frame.Message id q (Some (cluster_ref.Known x)) e) p h = received_has k id _ q p h
+frame_has d k (frame.Message id q (Some (cluster_ref.Stranger name)) e) p h = h
 frame_has d k f p h = h
 
 get_has : (d : Declared) (k : Client) (o : Option Packet) (p : Ident → Bool) → Has p k → Has p (get d k o).client
@@ -162,7 +162,7 @@ any_drop p zero xs h = h
 any_drop p (suc n) [] h = h
 any_drop p (suc n) (x ∷ xs) h = or_right (p x) (list_any p xs) (any_drop p n xs h)
 
--- the client behind it
+-- the client after it
 acted_is : (s : Setup) (w : World) (c : ℕ) (l : Option LinkName) (a : Acted) (p : Ident → Bool) → c < length w.clients → (a.idle ≡ true → a.client ≡ client_at s w c) → Has p a.client → GotOf s (client_does s w c l a) p c
 unfolding client_does
 acted_is s w c l a p lt same h =

@@ -1,4 +1,4 @@
--- A subscription that is sought at one cluster after the other, behind a settling: at those where it was, only what is settled since is
+-- A subscription that is sought at one cluster after the other, after a settling: at those where it was, only what is settled since is
 -- acknowledged.
 use Rattle.std.proofs.Common.{◌≡◌, ℕ, ◌*◌, ◌<◌, ◌==◌, Bool, true, false, List, [], ◌∷◌, ◌++◌, length, refl, sym, ap, subst, ◌∙◌, arith, inl, inr, ◌⊎◌, not}
 use Rattle.std.specs.Prelude.{Option, Some, None, ◌&&◌, ◌||◌, if◌then◌else◌, nat_lt, slice_index_or, slice_set}
@@ -111,7 +111,7 @@ none_left : (told : SettledSoFar) (t : ℕ) (es : List Entry) (n : List ℕ) (vs
 none_left told t es n vs none h =
     each_two (λ (v : Subscription). bytes_eq v.name n ≡ false → OnlyTold told t es v) (λ (v : Subscription). bytes_eq v.name n ≡ false) (OnlyTold told t es) (λ v f other. f other) vs h (none_named vs n none)
 
--- behind the writes of a seek all is told
+-- after the writes of a seek all is told
 sought_only : (told : SettledSoFar) (t per : ℕ) (h : Site) (b : Broker) (n : List ℕ) (to : Option Position) (q : Plan) → Seeks h b n to q → (q.idle ≡ true → sub_named b.subs n ≡ None)
     → Tells told t per b q.writes → AllSubs (λ (v : Subscription). bytes_eq v.name n ≡ false → OnlyTold told t b.entries v) b
     → AllSubs (OnlyTold told t (all_written per b q.writes).entries) (all_written per b q.writes)
@@ -185,7 +185,7 @@ whole_fencing s w told t x n xs from b only names = record {
   names = names;
 }
 
--- the sought topic behind the seek
+-- the sought topic after the seek
 topic_fencing : (s : Setup) (v w w' : World) (told : SettledSoFar) (x : ℕ) (n xs : List ℕ) (p : Planned) (i : ℕ) (to : Option Position) → Shape s w p → IsThere s p.topic p.cluster → Knows s w → NoSelf s w
     → HasCuts s w → Grown s w w' → p.plan ≡ seek (site s p.topic p.cluster) (topic_at s w p.topic p.cluster) n to → seek_index (topic_at s w p.topic p.cluster) to ≡ Some i
     → Tells told p.topic s.per_ledger (topic_at s w p.topic p.cluster) p.plan.writes

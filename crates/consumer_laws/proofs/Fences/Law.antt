@@ -1,4 +1,4 @@
--- The law: where a subscription is sought, or deleted, at every cluster behind a settling, what was settled before counts no more.
+-- The law: where a subscription is sought, or deleted, at every cluster after a settling, what was settled before counts no more.
 use Rattle.std.proofs.Common.{◌≡◌, ℕ, ◌<◌, ◌≤◌, ◌==◌, Bool, true, false, List, [], ◌∷◌, ◌++◌, length, refl, sym, ap, subst, ◌∙◌, arith, not}
 use Rattle.std.specs.Prelude.{Option, Some, None, ◌&&◌, ◌||◌, if◌then◌else◌, is_some, slice_get}
 use Rattle.std.specs.List.{list_any}
@@ -47,6 +47,8 @@ use Rattle.consumer_laws.proofs.Fences.Kept.{Anew, HasComeOver, anew_kept, from_
 use Rattle.consumer_laws.proofs.Fences.Since.{since_itself}
 use Rattle.consumer_laws.proofs.Subscriptions.Plans.{none_named}
 use Rattle.consumer_laws.proofs.Subscriptions.WhatIsOut.{each_two}
+use Rattle.geo_base.proofs.Bools.{and_no_second}
+use Rattle.geo_base.proofs.Lists.{bytes_eq_itself}
 
 -- ---- runs
 
@@ -112,12 +114,9 @@ settled_there s names es =
 told_but : ℕ → List ℕ → SettledSoFar → SettledSoFar
 told_but t n told u m = if (u == t) && bytes_eq m n then [] else told u m
 
-same_bytes : (n : List ℕ) → bytes_eq n n ≡ true
-same_bytes n = (bytes_eq-Decides n n).1 refl
-
 but_none : (t : ℕ) (n : List ℕ) (told : SettledSoFar) → told_but t n told t n ≡ []
 unfolding told_but
-but_none t n told = on_true ((t == t) && bytes_eq n n) [] (told t n) (both (t == t) (bytes_eq n n) (eq-eqb t t refl) (same_bytes n))
+but_none t n told = on_true ((t == t) && bytes_eq n n) [] (told t n) (both (t == t) (bytes_eq n n) (eq-eqb t t refl) (bytes_eq_itself n))
 
 but_told : (t : ℕ) (n : List ℕ) (told : SettledSoFar) (u : ℕ) (m : List ℕ) (e : Entry) → ((u == t) && bytes_eq m n) ≡ false → IsSettled told u m e → IsSettled (told_but t n told) u m e
 unfolding told_but
@@ -246,11 +245,6 @@ first_no : (c d : Bool) → c ≡ false → (c && d) ≡ false
 first_no true d h = absurd (false≢true (sym h))
 first_no false d h = refl
 
-second_no : (c d : Bool) → d ≡ false → (c && d) ≡ false
-second_no c true h = absurd (false≢true (sym h))
-second_no true false h = refl
-second_no false false h = refl
-
 deleted_anew : (s : Setup) → Named s → (v : World) → HasComeOver s v → (told : SettledSoFar) (u : World) (t : ℕ) (n : List ℕ) → t < length s.topics → IsNowhere s u t n → NoUpdateSince s v u t n → Anew s v told u
     → Anew s v (told_but t n told) u
 deleted_anew s names v over told u t n lt nowhere none h = (
@@ -290,7 +284,7 @@ deleted_anew s names v over told u t n lt nowhere none h = (
         by true is_c =
             let absent = subst (λ (ws : List Subscription). sub_named ws n ≡ None) is (subst (λ (z : ℕ). sub_named (topic_at s u z x).subs n ≡ None) (sym (eqb-true a t is_c)) (nowhere x there.1)) in
             each_two (OnlyTold told a (topic_at s u a x).entries) (λ (sub : Subscription). bytes_eq sub.name n ≡ false) (OnlyTold (told_but t n told) a (topic_at s u a x).entries)
-            (λ sub f differ. but_only t n told a (topic_at s u a x).entries sub (second_no (a == t) (bytes_eq sub.name n) differ) f) vs kept (none_named vs n absent)
+            (λ sub f differ. but_only t n told a (topic_at s u a x).entries sub (and_no_second (a == t) (bytes_eq sub.name n) differ) f) vs kept (none_named vs n absent)
 
 gone_anew : (s : Setup) → IsScripted s → (es ks fs : List Step) (at : Settling) (t : ℕ) (n : List ℕ) → let v = settled_behind_all s es in let u = (run_from no_limits s (begun v) ks).world in
     t < length s.topics → IsNowhere s u t n → NoUpdateSince s v u t n → IsShort (settling_so_far no_limits s (run_from no_limits s (begun u) fs) at).world → IsShort v

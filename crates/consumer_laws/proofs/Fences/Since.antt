@@ -1,4 +1,4 @@
--- Since a world v: topics have grown, and what senders had acknowledged there they still have. Where all had come over at v, an update that
+-- Since a world v: topics have grown, and what replicators had acknowledged there they still have. Where all had come over at v, an update that
 -- is read since was stored since at its own cluster.
 use Rattle.std.proofs.Common.{◌≡◌, ℕ, zero, suc, ◌+◌, ◌-◌, ◌<◌, ◌≤◌, Bool, true, false, List, [], ◌∷◌, ◌++◌, length, refl, sym, ap, subst, ◌∙◌, arith, inl, inr}
 use Rattle.std.specs.Prelude.{Some, if◌then◌else◌, slice_get, slice_index_or}
@@ -6,9 +6,9 @@ use Rattle.std.proofs.lemmas.Bool.{false≢true}
 use Rattle.std.proofs.lemmas.List.{append_assoc}
 use Rattle.std.proofs.lemmas.List.Elements.{filter-append}
 use Rattle.std.proofs.lemmas.Option.{none-some, same_Some}
-use Rattle.world_laws.proofs.Types.{Entry, SenderState}
-use Rattle.world_laws.proofs.Types.sender_state
-use Rattle.geo_base.specs.Broker.{Broker, no_broker, sender_at}
+use Rattle.world_laws.proofs.Types.{Entry, ReplicatorState}
+use Rattle.world_laws.proofs.Types.replicator_state
+use Rattle.geo_base.specs.Broker.{Broker, no_broker, replicator_at}
 use Rattle.geo_base.specs.Cursor.{has, next_open}
 use Rattle.geo_base.specs.Entry.{is_outbound}
 use Rattle.geo_base.specs.Happening.{broker_does, broker_halts, stops}
@@ -16,7 +16,7 @@ use Rattle.geo_base.specs.Laws.{IsComplete, of_origin, outbound}
 use Rattle.geo_base.specs.Plan.{done, halted}
 use Rattle.geo_base.specs.Planned.{Planned}
 use Rattle.geo_base.specs.Seeking.{restart}
-use Rattle.geo_base.specs.Sender.{Sender, index_to_read}
+use Rattle.geo_base.specs.Replicator.{Replicator, index_to_read}
 use Rattle.geo_base.specs.Setup.{Setup}
 use Rattle.geo_base.specs.World.{World, node, site, topic_at}
 use Rattle.world_laws.proofs.Induction.Layers.{Everywhere, one_topic}
@@ -103,10 +103,10 @@ next_lacks set from (suc more) i h = by (has set from) refl h (next_lacks set (f
     by true is e ih = ih e
     by false is e ih = subst (λ (j : ℕ). has set j ≡ false) (same_Some from i e) is
 
-read_lacks : (state : SenderState) (u : Sender) (n i : ℕ) → index_to_read state u n ≡ Some i → has u.cursor i ≡ false
-read_lacks sender_state.Open u n i h = next_lacks u.cursor u.read_index (n - u.read_index) i h
-read_lacks sender_state.Opening u n i h = absurd (none-some i h)
-read_lacks sender_state.Closed u n i h = absurd (none-some i h)
+read_lacks : (state : ReplicatorState) (u : Replicator) (n i : ℕ) → index_to_read state u n ≡ Some i → has u.cursor i ≡ false
+read_lacks replicator_state.Open u n i h = next_lacks u.cursor u.read_index (n - u.read_index) i h
+read_lacks replicator_state.Opening u n i h = absurd (none-some i h)
+read_lacks replicator_state.Closed u n i h = absurd (none-some i h)
 
 rest_of : List Entry → List Entry
 rest_of [] = []
@@ -160,8 +160,8 @@ read_since s v w t x y i e at_x at_y since out back rest begins next of = (
     g : Lengthened far (topic_at s w t y)
     g = since.grown t y at_y
 
-    lacks : has (sender_at (topic_at s w t x) y).cursor i ≡ false
-    lacks = read_lacks (sender_at (topic_at s w t x) y).state (sender_at (topic_at s w t x) y) (length (topic_at s w t x).entries) i next.1
+    lacks : has (replicator_at (topic_at s w t x) y).cursor i ≡ false
+    lacks = read_lacks (replicator_at (topic_at s w t x) y).state (replicator_at (topic_at s w t x) y) (length (topic_at s w t x).entries) i next.1
 
     late : length near.entries ≤ i
     late =

@@ -21,6 +21,8 @@ use Rattle.world_laws.proofs.Clients.ClientLinks.{Packets}
 use Rattle.world_laws.proofs.Clients.Consumers.{IsCalmTo, IsQuiet}
 use Rattle.consumer_laws.proofs.Worlds.Facts.{AllAfter, DownFact, LinkFact, TakenFact}
 use Rattle.consumer_laws.proofs.Subscriptions.WhatIsOut.{carried_more}
+use Rattle.geo_base.proofs.Lists.{get_none_past, length_push}
+pub use Rattle.geo_base.proofs.Lists.{take_whole}
 
 -- ---- lists
 
@@ -28,10 +30,6 @@ pub take_left : {X : Type 0} (k : ℕ) (xs ys : List X) → k ≤ length xs → 
 take_left zero xs ys le = refl
 take_left (suc k) [] ys le = absurd (omega (arith, le))
 take_left (suc k) (x ∷ xs) ys le = ap (λ l. x ∷ l) (take_left k xs ys (omega (arith, le)))
-
-pub take_whole : {X : Type 0} (xs : List X) → take (length xs) xs ≡ xs
-take_whole [] = refl
-take_whole (x ∷ xs) = ap (λ l. x ∷ l) (take_whole xs)
 
 pub take_next : {X : Type 0} (k : ℕ) (xs : List X) (x : X) → slice_get xs k ≡ Some x → take (k + 1) xs ≡ take k xs ++ x ∷ []
 take_next k xs x at = subst (λ (n : ℕ). take n xs ≡ take k xs ++ x ∷ []) next (by k xs at)
@@ -44,10 +42,6 @@ take_next k xs x at = subst (λ (n : ℕ). take n xs ≡ take k xs ++ x ∷ []) 
     by zero (y ∷ ys) h = ap (λ z. z ∷ []) (same_Some y x h)
     by (suc j) [] h = absurd (none-some x h)
     by (suc j) (y ∷ ys) h = ap (λ l. y ∷ l) (by j ys h)
-
-longer_one : {X : Type 0} (xs : List X) (x : X) → length (xs ++ x ∷ []) ≡ length xs + 1
-longer_one [] x = refl
-longer_one (y ∷ xs) x = let h = longer_one xs x in omega (arith, h)
 
 -- ---- one packet more
 
@@ -65,7 +59,7 @@ pub link_push : (told : SettledSoFar) (t x : ℕ) (b : Broker) (d : Declared) (k
 link_push told t x b d k sent l p h new = record {
   extends = λ session id e c. carried_more l.sent (p ∷ []) session id e (h.extends session id e c);
   after = after_push (DownFact told t x b d k.done) l.sent p h.after new;
-  whole = let w = h.whole in let m = longer_one l.sent p in omega (arith, w, m);
+  whole = let w = h.whole in let m = length_push l.sent p in omega (arith, w, m);
   taken = λ here connected. subst (Packets (TakenFact told t d k)) (sym (take_left l.taken l.sent (p ∷ []) h.whole)) (h.taken here connected);
 }
 
@@ -157,16 +151,11 @@ shape_takes_none s w p (Shape.Restart t x within) = tt
 shape_takes_none s w p (Shape.Idle t x within) = tt
 shape_takes_none s w p (Shape.Empty t x k within next) = empty_takes w k next
 
-none_past : {X : Type 0} (xs : List X) (k : ℕ) → slice_get xs k ≡ None → length xs ≤ k
-none_past [] k h = omega arith
-none_past (x ∷ xs) zero h = absurd (none-some x (sym h))
-none_past (x ∷ xs) (suc k) h = let r = none_past xs k h in omega (arith, r)
-
 -- where nothing waits nothing is taken
 pub link_took_none : (told : SettledSoFar) (t x : ℕ) (b : Broker) (d : Declared) (k : Client) (sent : List Packet) (l : Link) → next_packet l ≡ None → LinkFact told t x b d k sent l
     → LinkFact told t x b d k sent (took l)
 link_took_none told t x b d k sent l none h =
-    let past = none_past l.sent l.taken none in let w = h.whole in
+    let past = get_none_past l.sent l.taken none in let w = h.whole in
     let same : l.taken ≡ min (l.taken + 1) (length l.sent) = omega (arith, past, w) in
     record {
       extends = h.extends;

@@ -283,7 +283,7 @@ given_pushed : (s : Setup) (w : World) (p : Planned) (stamp c y : ℕ) (Q : ℕ 
 given_pushed s w p stamp c y Q v i at e is new h =
     does_down s p.topic p.cluster stamp c y Q p.takes p.plan.sent w.links (subst (λ (q : Plan). Each (OutHere c y p.cluster Q) q.sent) (sym is) (new, tt)) h
 
--- less is due behind it
+-- less is due after it
 given_less : (i at : ℕ) (v : Subscription) (j : ℕ) → is_due v j ≡ false → is_due (given i at v) j ≡ false
 given_less i at v j h = passed_less i v j h
 
@@ -342,7 +342,7 @@ first_undue s told w p stamp v i at e k a there is due h =
           | inr ge ↦ let same : i ≡ j = omega (arith, le, ge) in subst (λ (m : ℕ). is_due (given i at v) m ≡ false) same (given_done i at v)
         ]
 
--- what is sent rises behind it
+-- what is sent rises after it
 pub given_rises : (s : Setup) (told : SettledSoFar) (w : World) (p : Planned) (stamp : ℕ) (v : Subscription) (i at : ℕ) (e : Entry) → Around s told w → IsThere s p.topic p.cluster
     → let b = topic_at s w p.topic p.cluster in let x = p.cluster in
     p.plan ≡ plan_of [] (change.Given v.name i at ∷ []) (message (site s p.topic p.cluster) b i e (consumer_at v.consumers at)) → least_due v (length b.entries) ≡ Some i

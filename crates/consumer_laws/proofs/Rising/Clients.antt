@@ -7,7 +7,7 @@ use Rattle.world_laws.proofs.Types.{Frame, Held, Ident, Line, Out, Packet, Peer,
 use Rattle.world_laws.proofs.Types.frame
 use Rattle.world_laws.proofs.Types.line
 use Rattle.world_laws.proofs.Types.peer
-use Rattle.world_laws.proofs.Types.place
+use Rattle.world_laws.proofs.Types.cluster_ref
 use Rattle.geo_base.specs.Client.{Acted, Client, command, command_at, commands_at, connected_to, connects, id_of, reconnect}
 use Rattle.geo_base.specs.Getting.{answered, get, got_frame, is_duplicate, is_number, publishes, received, with_receipt, without_seq}
 use Rattle.geo_base.specs.Going.{acks_all, acks_one, acks_to, first_held, go, go_line, most_unanswered, past}
@@ -95,8 +95,8 @@ frame_kinds d k (frame.SendReceipt id n p) h = answered_kinds d k n (with_receip
 frame_kinds d k (frame.SendError id n code) h = answered_kinds d k n _ h (record { produce = h.produce; flow = h.flow; unanswered = h.unanswered })
 frame_kinds d k (frame.Error request code) h = record { produce = h.produce; flow = h.flow; unanswered = h.unanswered }
 frame_kinds d k (frame.Message id p None e) h = received_kinds d k id _ p h
-frame_kinds d k (frame.Message id p (Some (place.Known x)) e) h = received_kinds d k id _ p h
-frame_kinds d k (frame.Message id p (Some (place.Stranger name)) e) h = h
+frame_kinds d k (frame.Message id p (Some (cluster_ref.Known x)) e) h = received_kinds d k id _ p h
+frame_kinds d k (frame.Message id p (Some (cluster_ref.Stranger name)) e) h = h
 frame_kinds d k f h = h
 
 pub get_kinds : (d : Declared) (k : Client) (o : Option Packet) → LineKinds d k → LineKinds d (get d k o).client

@@ -1,4 +1,4 @@
--- The topic of an event, and the world behind it: what is sent to each consumer rises.
+-- The topic of an event, and the world after it: what is sent to each consumer rises.
 use Rattle.std.proofs.Common.{◌≡◌, ℕ, zero, suc, ◌<◌, Bool, true, false, List, [], ◌∷◌, ◌++◌, length, map, refl, sym, ap, subst, ◌∙◌, ◌==◌, arith}
 use Rattle.std.specs.Prelude.{Option, Some, slice_index_or, slice_set, take}
 use Rattle.std.specs.Str.{bytes_eq}
@@ -182,7 +182,7 @@ gives_rise s told w p stamp a apart n v i at e due picked is =
         let one = one_line (declared_at s k.client) k.id v.name u.name v.kind u.kind made.1 line in
         false≢true (sym differ ∙ (bytes_eq-Decides u.name v.name).1 (sym one.0)))) u.consumers o.consumers) g
 
--- ---- the topic behind the event
+-- ---- the topic after the event
 
 -- as the topic and the numbers of sessions change
 number_moves : (ls : Links) (x : ℕ) (es es' : List ℕ) → ((p : Position) (i : ℕ) → index_of es p ≡ Some i → index_of es' p ≡ Some i) → (num num' : ℕ → ℕ) (sent : ℕ → List Packet) (k : Consumer) → num' k.client ≡ num k.client

@@ -1,10 +1,9 @@
 -- What each plan of a broker leaves of a subscription where what is sent rises: one lemma for each form that a plan has.
-use Rattle.std.proofs.Common.{◌≡◌, ℕ, ◌+◌, ◌<◌, Bool, true, false, List, [], ◌∷◌, filter, refl, sym, subst, ◌∙◌, ◌==◌, arith, inl, inr, not}
+use Rattle.std.proofs.Common.{◌≡◌, ℕ, ◌+◌, ◌<◌, Bool, true, false, List, [], ◌∷◌, filter, refl, sym, subst, ◌∙◌, ◌==◌, inl, inr, not}
 use Rattle.std.specs.Prelude.{Some, None, ◌||◌, max, nat_le}
 use Rattle.std.specs.List.{list_any}
 use Rattle.std.specs.Str.{bytes_eq}
 use Rattle.std.proofs.lemmas.Bool.{false≢true}
-use Rattle.std.proofs.lemmas.Bool.Decides.{nat_tests}
 use Rattle.std.proofs.lemmas.Slice.Eq.{bytes_eq-Decides}
 use Rattle.world_laws.proofs.Types.{Change, Consumer, Entry, Out, Packet, SubKind, Write}
 use Rattle.world_laws.proofs.Types.change
@@ -12,7 +11,7 @@ use Rattle.world_laws.proofs.Types.write
 use Rattle.geo_base.specs.Broker.{Broker, Site, sub_named, written}
 use Rattle.geo_base.specs.Cache.{cached}
 use Rattle.geo_base.specs.Cursor.{has}
-use Rattle.geo_base.specs.Dispatcher.{consumer_at, given, is_due, passed_index, pick}
+use Rattle.geo_base.specs.Dispatcher.{consumer_at, given, is_due, skipped_index, pick}
 use Rattle.geo_base.specs.Plan.{Plan, done, plan_of}
 use Rattle.geo_base.specs.Settled.{serves_one}
 use Rattle.geo_base.specs.Subscription.{Subscription, after_acks, attached, cleared, is_attached, new_subscription, permitted, sought, with_acks}
@@ -25,6 +24,7 @@ use Rattle.world_laws.proofs.Walks.Walk.{on_if, on_test}
 use Rattle.consumer_laws.proofs.Subscriptions.Plans.{CalmWrite, EasyChange, Free, OfKind, alter_fact, easy_changed, easy_written, named_n, new_fact, none_named}
 use Rattle.consumer_laws.proofs.Subscriptions.WhatIsOut.{GivenTo, Makes, SubFact, attached_fact, cleared_fact, given_fact}
 use Rattle.consumer_laws.proofs.Rising.Subs.{Apart, NoneTo, RiseFact, RiseOf, fewer_fact, less_due, rise_altered, rise_attached, rise_cleared, rise_detached, rise_given, rise_permitted}
+use Rattle.geo_base.proofs.Sums.{le_of_max}
 
 -- what is out, and what rises
 abbrev pub OutRises : Makes → List Entry → (ℕ → ℕ → Type 0) → List ℕ → (ℕ → ℕ) → (ℕ → List Packet) → Subscription → Type 0
@@ -38,7 +38,7 @@ calm_creates (write.Seek n i ∷ ws) h = absurd h.0
 calm_creates (write.Append e ∷ ws) h = (tt, calm_creates ws h.1)
 calm_creates (write.Delete n ∷ ws) h = (tt, calm_creates ws h.1)
 calm_creates (write.Acks n is ∷ ws) h = (tt, calm_creates ws h.1)
-calm_creates (write.SenderAck y i ∷ ws) h = (tt, calm_creates ws h.1)
+calm_creates (write.ReplicatorAck y i ∷ ws) h = (tt, calm_creates ws h.1)
 calm_creates (write.SessionNumber y n ∷ ws) h = (tt, calm_creates ws h.1)
 calm_creates (write.Ledger ∷ ws) h = (tt, calm_creates ws h.1)
 
@@ -58,13 +58,10 @@ has_filtered p (i ∷ is) j h =
     (λ g. elim (either (i == j) (has (filter p is) j) g) [ inl e ↦ or_left (i == j) (has is j) e | inr k ↦ or_right (i == j) (has is j) (has_filtered p is j k) ])
     (λ g. or_right (i == j) (has is j) (has_filtered p is j g)) h
 
-read_later : (r i j : ℕ) → nat_le (max r (i + 1)) j ≡ true → nat_le r j ≡ true
-read_later r i j h = grind (arith, nat_tests, h)
-
-pub passed_less : (i : ℕ) (v : Subscription) (j : ℕ) → is_due v j ≡ false → is_due (passed_index i v) j ≡ false
+pub passed_less : (i : ℕ) (v : Subscription) (j : ℕ) → is_due v j ≡ false → is_due (skipped_index i v) j ≡ false
 passed_less i v j h =
-    less_due v (passed_index i v) (λ k c. c)
-    (λ k g. or_falls (has v.due k) (nat_le v.read_index k) (has (filter (λ m. not (m == i)) v.due) k) (nat_le (max v.read_index (i + 1)) k) (has_filtered (λ m. not (m == i)) v.due k) (read_later v.read_index i k) g) j h
+    less_due v (skipped_index i v) (λ k c. c)
+    (λ k g. or_falls (has v.due k) (nat_le v.read_index k) (has (filter (λ m. not (m == i)) v.due) k) (nat_le (max v.read_index (i + 1)) k) (has_filtered (λ m. not (m == i)) v.due k) (le_of_max v.read_index i k) g) j h
 
 acked_less : (v : Subscription) (j : ℕ) → is_due v j ≡ false → is_due (after_acks v) j ≡ false
 acked_less v j h =
@@ -88,7 +85,7 @@ calm_written mine es joined ls num sent v (write.Acks n is) e h = (
 )
 calm_written mine es joined ls num sent v (write.Append x) e h = h
 calm_written mine es joined ls num sent v (write.Delete n) e h = h
-calm_written mine es joined ls num sent v (write.SenderAck y i) e h = h
+calm_written mine es joined ls num sent v (write.ReplicatorAck y i) e h = h
 calm_written mine es joined ls num sent v (write.SessionNumber y n) e h = h
 calm_written mine es joined ls num sent v write.Ledger e h = h
 
@@ -103,8 +100,8 @@ rise_changed mine es joined ls num sent v (change.Attach n k) e out h = absurd e
 rise_changed mine es joined ls num sent v (change.Given n i at) e out h = absurd e
 rise_changed mine es joined ls num sent v (change.Detach c) e out h = rise_detached mine es joined ls num sent c v out h
 rise_changed mine es joined ls num sent v (change.Permit n c permits) e out h = named_both (RiseFact joined ls num sent) n (permitted c permits) v (rise_permitted joined ls num sent c permits v) h
-rise_changed mine es joined ls num sent v (change.Passed n i) e out h =
-    named_both (RiseFact joined ls num sent) n (passed_index i) v (fewer_fact joined ls num sent v (passed_index i v) refl refl (passed_less i v)) h
+rise_changed mine es joined ls num sent v (change.Skipped n i) e out h =
+    named_both (RiseFact joined ls num sent) n (skipped_index i) v (fewer_fact joined ls num sent v (skipped_index i v) refl refl (passed_less i v)) h
 rise_changed mine es joined ls num sent v (change.Cache n c) e out h =
     named_both (RiseFact joined ls num sent) n (λ s. record s { cache = cached s.cache c }) v (fewer_fact joined ls num sent v (record v { cache = cached v.cache c }) refl refl (λ j g. g)) h
 rise_changed mine es joined ls num sent v (change.Acked n) e out h =

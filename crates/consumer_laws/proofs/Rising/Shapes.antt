@@ -19,7 +19,7 @@ use Rattle.geo_base.specs.Seeking.{restart}
 use Rattle.geo_base.specs.Setup.{Setup, declared_at}
 use Rattle.geo_base.specs.Subscribing.{same_kind}
 use Rattle.geo_base.specs.Subscription.{Subscription, detached, is_of}
-use Rattle.geo_base.specs.Updating.{passed_over}
+use Rattle.geo_base.specs.Updating.{updated_indexes}
 use Rattle.geo_base.specs.World.{ToBroker, World, link_at, site, topic_at}
 use Rattle.world_laws.proofs.Dispatching.SubFrames.{AllSubs, NamesApart, each_made, forgotten_subs}
 use Rattle.world_laws.proofs.Induction.Frames.{at_set}
@@ -157,12 +157,12 @@ reads_rises mine es joined ls sent per h b y q (Reads.Counts i e id answer u u' 
 reads_rises mine es joined ls sent per h b y q (Reads.AsksAgain i e id answer u u' next is heard) f = easy mine es joined ls sent per b q (tt, (tt, tt)) (tt, (tt, tt)) (tt, (tt, tt)) f
 reads_rises mine es joined ls sent per h b y q (Reads.Completes i e id answer u u' next is heard) f = easy mine es joined ls sent per b q (tt, (tt, tt)) (tt, (tt, tt)) (tt, (tt, tt)) f
 reads_rises mine es joined ls sent per h b y q (Reads.CreatesAt i j e n remote next is named) f =
-    let rest = plan_of (write.Acks n (passed_over y 0 (j + 1) b.entries) ∷ write.SenderAck y i ∷ []) (change.Acked n ∷ change.ReadTo y (i + 1) ∷ []) [] in record {
+    let rest = plan_of (write.Acks n (updated_indexes y 0 (j + 1) b.entries) ∷ write.ReplicatorAck y i ∷ []) (change.Acked n ∷ change.ReadTo y (i + 1) ∷ []) [] in record {
       facts = new_done mine es joined ls (numbers b) sent per b n sub_kind.Exclusive true false rest (tt, (tt, tt)) (tt, (tt, tt)) (f (tt, (tt, tt)));
       numbers_same = same_number per b q (tt, (tt, tt));
     }
-reads_rises mine es joined ls sent per h b y q (Reads.PassesOver i j e n remote v ws next is named after) f =
-    easy mine es joined ls sent per b q (tt, each_both CalmWrite ws (write.SenderAck y i ∷ []) (updates_calm h b _ ws after) (tt, tt)) (tt, (tt, tt)) (tt, (tt, tt)) f
+reads_rises mine es joined ls sent per h b y q (Reads.ActsOnUpdate i j e n remote v ws next is named after) f =
+    easy mine es joined ls sent per b q (tt, each_both CalmWrite ws (write.ReplicatorAck y i ∷ []) (updates_calm h b _ ws after) (tt, tt)) (tt, (tt, tt)) (tt, (tt, tt)) f
 
 snaps_rises : (mine : Makes) (es : List Entry) (joined : ℕ → ℕ → Type 0) (ls : List ℕ) (sent : ℕ → List Packet) (per : ℕ) (h : Site) (b : Broker) (q : Plan) → Snaps h b q → Before mine es joined ls sent b q → RisesDone mine es joined ls sent per b q
 snaps_rises mine es joined ls sent per h b q Snaps.NothingToAsk f = easy mine es joined ls sent per b q tt tt tt f
@@ -177,7 +177,7 @@ offers_rises : (mine : Makes) (es : List Entry) (joined : ℕ → ℕ → Type 0
     → Before mine es joined ls sent b q → RisesDone mine es joined ls sent per b q
 offers_rises mine es joined ls sent per h b n q Offers.NothingToOffer gives f = easy mine es joined ls sent per b q tt tt tt f
 offers_rises mine es joined ls sent per h b n q (Offers.Gives v i at e due is picked) gives f = gives n v i at e due picked refl
-offers_rises mine es joined ls sent per h b n q (Offers.PassesBy v i e ws due is after) gives f = easy mine es joined ls sent per b q (tt, updates_calm h b _ ws after) (tt, (tt, tt)) (tt, (tt, tt)) f
+offers_rises mine es joined ls sent per h b n q (Offers.SkipsMarker v i e ws due is after) gives f = easy mine es joined ls sent per b q (tt, updates_calm h b _ ws after) (tt, (tt, tt)) (tt, (tt, tt)) f
 offers_rises mine es joined ls sent per h b n q (Offers.Caches v i j e x ws due is after) gives f =
     easy mine es joined ls sent per b q (tt, updates_calm h b _ ws after) (tt, (tt, (tt, tt))) (tt, (tt, (tt, tt))) f
 

@@ -4,7 +4,7 @@ use Rattle.std.proofs.Common.{◌≡◌, ℕ, ◌+◌, ◌<◌, ◌≤◌, Bool,
 use Rattle.std.specs.Prelude.{Some, if◌then◌else◌, ◌||◌, ◌&&◌, min, nat_le, slice_set}
 use Rattle.std.specs.List.{list_any}
 use Rattle.std.proofs.lemmas.Bool.{eqb-false, eqb-true, false≢true}
-use Rattle.world_laws.proofs.Types.{Consumer, Entry, Frame, Outstanding, Packet, SubKind}
+use Rattle.world_laws.proofs.Types.{Consumer, Entry, Frame, Unacked, Packet, SubKind}
 use Rattle.world_laws.proofs.Types.frame
 use Rattle.world_laws.proofs.Types.sub_kind
 use Rattle.geo_base.specs.Cursor.{has, with_indexes}
@@ -179,7 +179,7 @@ apart_filter p (k ∷ ks) h =
     on_if Apart (p k) (k ∷ filter p ks) (filter p ks) (each_filter (λ (j : Consumer). (j.client == k.client) ≡ false) p ks h.0, apart_filter p ks h.1) (apart_filter p ks h.1)
 
 -- nothing is out with it where all is out with another one
-none_with : (c z : ℕ) (os : List Outstanding) → (z == c) ≡ false → Each (λ (o : Outstanding). o.client ≡ z) os → out_with c os ≡ []
+none_with : (c z : ℕ) (os : List Unacked) → (z == c) ≡ false → Each (λ (o : Unacked). o.client ≡ z) os → out_with c os ≡ []
 none_with c z [] other h = refl
 none_with c z (o ∷ os) other h =
     let off : (o.client == c) ≡ false = subst (λ (y : ℕ). (y == c) ≡ false) (sym h.0) other in
@@ -188,14 +188,14 @@ none_with c z (o ∷ os) other h =
 left_due : (c : ℕ) (v : Subscription) → out_with c v.out ≡ [] → (j : ℕ) → is_due v j ≡ false → is_due (detached c v) j ≡ false
 left_due c v none j h = subst (λ (is : List ℕ). (not (has v.cursor j) && (has (with_indexes v.due (filter (λ i. not (has v.cursor i)) is)) j || nat_le v.read_index j)) ≡ false) (sym none) h
 
-rise_left : (es : List Entry) (ls : List ℕ) (num : ℕ → ℕ) (sent : ℕ → List Packet) (c : ℕ) (v : Subscription) (ks : List Consumer) → v.consumers ≡ ks → Each (λ (o : Outstanding). HeadOf es num sent ks o) v.out
+rise_left : (es : List Entry) (ls : List ℕ) (num : ℕ → ℕ) (sent : ℕ → List Packet) (c : ℕ) (v : Subscription) (ks : List Consumer) → v.consumers ≡ ks → Each (λ (o : Unacked). HeadOf es num sent ks o) v.out
     → RiseOf ls num sent (is_due v) ks → RiseOf ls num sent (is_due (detached c v)) (filter (λ (k : Consumer). not (is_of c k)) ks)
 rise_left es ls num sent c v [] is out h = tt
 rise_left es ls num sent c v (k ∷ ks) is out h =
     on_test (RiseOf ls num sent (is_due (detached c v))) (not (is_of c k)) (k ∷ filter (λ (j : Consumer). not (is_of c j)) ks) (filter (λ (j : Consumer). not (is_of c j)) ks)
     (λ stays. (
       less_to ls num sent (is_due v) (is_due (detached c v)) k
-          (left_due c v (none_with c k.client v.out (off (is_of c k) stays) (each_map (λ (o : Outstanding). HeadOf es num sent (k ∷ ks) o) (λ (o : Outstanding). o.client ≡ k.client) (λ o g. g.0) v.out out))) h.0,
+          (left_due c v (none_with c k.client v.out (off (is_of c k) stays) (each_map (λ (o : Unacked). HeadOf es num sent (k ∷ ks) o) (λ (o : Unacked). o.client ≡ k.client) (λ o g. g.0) v.out out))) h.0,
       each_filter (NoneTo num sent) (λ (j : Consumer). not (is_of c j)) ks h.1,
     ))
     (λ leaves. all_rise ls num sent (is_due (detached c v)) (filter (λ (j : Consumer). not (is_of c j)) ks) (each_filter (NoneTo num sent) (λ (j : Consumer). not (is_of c j)) ks h.1))
@@ -212,7 +212,7 @@ rise_detached mine es joined ls num sent c v out h = record {
       let g = h.one one in (
         apart_filter (λ (k : Consumer). not (is_of c k)) v.consumers g.0,
         rise_left es ls num sent c v v.consumers refl
-            (each_map (OutFact es num sent v.kind v.consumers) (λ (o : Outstanding). HeadOf es num sent v.consumers o) (λ o f. f.head one) v.out out.out) g.1,
+            (each_map (OutFact es num sent v.kind v.consumers) (λ (o : Unacked). HeadOf es num sent v.consumers o) (λ o f. f.head one) v.out out.out) g.1,
       );
 }
 

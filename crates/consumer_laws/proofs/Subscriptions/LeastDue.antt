@@ -5,7 +5,7 @@ use Rattle.std.specs.Prelude.{Some, ◌&&◌, ◌||◌, nat_le, slice_get}
 use Rattle.std.specs.List.{list_any}
 use Rattle.std.proofs.lemmas.Bool.{eqb-true, false≢true}
 use Rattle.std.proofs.lemmas.Option.{same_Some}
-use Rattle.world_laws.proofs.Types.{Consumer, Entry, Outstanding, Packet}
+use Rattle.world_laws.proofs.Types.{Consumer, Entry, Unacked, Packet}
 use Rattle.geo_base.specs.Cursor.{has}
 use Rattle.geo_base.specs.Dispatcher.{consumer_at, least_due, pick}
 use Rattle.geo_base.specs.Entry.{is_data}
@@ -31,7 +31,7 @@ any_found p P [] h all = absurd (false≢true h)
 any_found p P (x ∷ xs) h all = elim (either (p x) (list_any p xs) h) [ inl this ↦ record { one = x; passes = this; fact = all.0 } | inr later ↦ any_found p P xs later all.1 ]
 
 -- what is out with the first consumer was sent to it
-head_sent : (es : List Entry) (num : ℕ → ℕ) (sent : ℕ → List Packet) (ks : List Consumer) (k : Consumer) (rest : List Consumer) (o : Outstanding) (j : ℕ) (f : Entry) → ks ≡ k ∷ rest → o.index ≡ j
+head_sent : (es : List Entry) (num : ℕ → ℕ) (sent : ℕ → List Packet) (ks : List Consumer) (k : Consumer) (rest : List Consumer) (o : Unacked) (j : ℕ) (f : Entry) → ks ≡ k ∷ rest → o.index ≡ j
     → slice_get es j ≡ Some f → HeadOf es num sent ks o → Carried (sent k.client) (num k.client) k.id f
 head_sent es num sent ks k rest o j f is index at h =
     let g : HeadOf es num sent (k ∷ rest) o = subst (λ (js : List Consumer). HeadOf es num sent js o) is h in
@@ -71,6 +71,6 @@ gives_order told t mine es num sent v i at key only r facts due picked one j f l
 
     out : is_out v j ≡ true → Carried (sent (consumer_at v.consumers at).client) (num (consumer_at v.consumers at).client) (consumer_at v.consumers at).id f
     out e =
-        let o = any_found (λ (o : Outstanding). (o.index == j) && is_attached o.client v) (OutFact es num sent v.kind v.consumers) v.out e facts.out in
+        let o = any_found (λ (o : Unacked). (o.index == j) && is_attached o.client v) (OutFact es num sent v.kind v.consumers) v.out e facts.out in
         subst (λ (k : Consumer). Carried (sent k.client) (num k.client) k.id f) (sym is_first)
         (head_sent es num sent v.consumers first.first first.rest o.one j f first.is (eqb-true o.one.index j (left (o.one.index == j) _ o.passes)) stands (o.fact.head one))

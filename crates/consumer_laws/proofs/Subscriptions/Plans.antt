@@ -6,13 +6,13 @@ use Rattle.std.specs.Str.{bytes_eq}
 use Rattle.std.proofs.lemmas.Bool.{eq-eqb, false≢true, lt-ltb}
 use Rattle.std.proofs.lemmas.Option.{none-some}
 use Rattle.std.proofs.lemmas.Slice.Eq.{bytes_eq-Decides}
-use Rattle.world_laws.proofs.Types.{Change, Consumer, Entry, Out, Outstanding, Packet, Session, SubKind, Write}
+use Rattle.world_laws.proofs.Types.{Change, Consumer, Entry, Out, Unacked, Packet, Session, SubKind, Write}
 use Rattle.world_laws.proofs.Types.change
 use Rattle.world_laws.proofs.Types.sub_kind
 use Rattle.world_laws.proofs.Types.write
 use Rattle.geo_base.specs.Broker.{Broker, changed, session_at, sub_named, written}
 use Rattle.geo_base.specs.Cache.{cached}
-use Rattle.geo_base.specs.Dispatcher.{consumer_at, given, passed_index, pick}
+use Rattle.geo_base.specs.Dispatcher.{consumer_at, given, skipped_index, pick}
 use Rattle.geo_base.specs.Offering.{number_of}
 use Rattle.geo_base.specs.Plan.{Plan, all_changed, all_written, done, plan_of}
 use Rattle.geo_base.specs.Subscribing.{is_busy, same_kind}
@@ -50,7 +50,7 @@ calm_easy (write.Seek n i) h = absurd h
 calm_easy (write.Append e) h = tt
 calm_easy (write.Delete n) h = tt
 calm_easy (write.Acks n is) h = tt
-calm_easy (write.SenderAck y i) h = tt
+calm_easy (write.ReplicatorAck y i) h = tt
 calm_easy (write.SessionNumber y n) h = tt
 calm_easy write.Ledger h = tt
 
@@ -67,7 +67,7 @@ easy_written mine es num sent v (write.Seek n i) e h =
     named_fact (SubFact mine es num sent) n (sought i) v (λ h. record { consumers = h.consumers; out = h.out }) h
 easy_written mine es num sent v (write.Append x) e h = h
 easy_written mine es num sent v (write.Delete n) e h = h
-easy_written mine es num sent v (write.SenderAck y i) e h = h
+easy_written mine es num sent v (write.ReplicatorAck y i) e h = h
 easy_written mine es num sent v (write.SessionNumber y n) e h = h
 easy_written mine es num sent v write.Ledger e h = h
 
@@ -82,7 +82,7 @@ easy_changed mine es num sent v (change.Attach n k) e h = absurd e
 easy_changed mine es num sent v (change.Given n i at) e h = absurd e
 easy_changed mine es num sent v (change.Detach c) e h = detached_fact mine es num sent c v h
 easy_changed mine es num sent v (change.Permit n c permits) e h = named_fact (SubFact mine es num sent) n (permitted c permits) v (permitted_fact mine es num sent c permits v) h
-easy_changed mine es num sent v (change.Passed n i) e h = named_fact (SubFact mine es num sent) n (passed_index i) v (λ h. record { consumers = h.consumers; out = h.out }) h
+easy_changed mine es num sent v (change.Skipped n i) e h = named_fact (SubFact mine es num sent) n (skipped_index i) v (λ h. record { consumers = h.consumers; out = h.out }) h
 easy_changed mine es num sent v (change.Cache n c) e h =
     named_fact (SubFact mine es num sent) n (λ s. record s { cache = cached s.cache c }) v (λ h. record { consumers = h.consumers; out = h.out }) h
 easy_changed mine es num sent v (change.Acked n) e h = named_fact (SubFact mine es num sent) n after_acks v (acked_fact mine es num sent v) h
@@ -114,7 +114,7 @@ easy_creates (write.Append e ∷ ws) h = (tt, easy_creates ws h.1)
 easy_creates (write.Delete n ∷ ws) h = (tt, easy_creates ws h.1)
 easy_creates (write.Acks n is ∷ ws) h = (tt, easy_creates ws h.1)
 easy_creates (write.Seek n i ∷ ws) h = (tt, easy_creates ws h.1)
-easy_creates (write.SenderAck y i ∷ ws) h = (tt, easy_creates ws h.1)
+easy_creates (write.ReplicatorAck y i ∷ ws) h = (tt, easy_creates ws h.1)
 easy_creates (write.SessionNumber y n ∷ ws) h = (tt, easy_creates ws h.1)
 easy_creates (write.Ledger ∷ ws) h = (tt, easy_creates ws h.1)
 
@@ -170,7 +170,7 @@ free_is kind v free = by v.consumers refl
         (subst (λ (js : List Consumer). (nat_lt 0 (length js) && (not (same_kind kind v.kind) || same_kind kind sub_kind.Exclusive)) ≡ false) is free)))
 
 -- who has nobody has nothing out
-none_out : (mine : Makes) (es : List Entry) (num : ℕ → ℕ) (sent : ℕ → List Packet) (v : Subscription) (P : Outstanding → Type 0) → v.consumers ≡ [] → SubFact mine es num sent v → Each P v.out
+none_out : (mine : Makes) (es : List Entry) (num : ℕ → ℕ) (sent : ℕ → List Packet) (v : Subscription) (P : Unacked → Type 0) → v.consumers ≡ [] → SubFact mine es num sent v → Each P v.out
 none_out mine es num sent v P none h =
     each_map (OutFact es num sent v.kind v.consumers) P
     (λ o f. absurd (false≢true (subst (λ (ks : List Consumer). list_any (is_of o.client) ks ≡ true) none f.attached))) v.out h.out
@@ -286,7 +286,7 @@ pub same_numbers : (num num' : ℕ → ℕ) → ((c : ℕ) → num' c ≡ num c)
 same_numbers num num' same [] = tt
 same_numbers num num' same (v ∷ vs) = (all v.out, same_numbers num num' same vs)
   where
-    all : (os : List Outstanding) → Each (λ (o : Outstanding). num' o.client ≡ num o.client) os
+    all : (os : List Unacked) → Each (λ (o : Unacked). num' o.client ≡ num o.client) os
     all [] = tt
     all (o ∷ os) = (same o.client, all os)
 
@@ -308,7 +308,7 @@ left_numbers per b c o os = each_made (SameNumbers (numbers b) num') (detached c
         at_set (λ (x : Option Session). number_of x ≡ numbers b z) b.sessions c z o None (λ same. absurd (false≢true (sym differ ∙ eq-eqb z c (sym same)))) refl
 
     one : (v : Subscription) → SameNumbers (numbers b) num' (detached c v)
-    one v = each_map (λ (x : Outstanding). (x.client == c) ≡ false) (λ (x : Outstanding). num' x.client ≡ numbers b x.client) (λ x differ. other x.client differ) (detached c v).out (detached_none c v)
+    one v = each_map (λ (x : Unacked). (x.client == c) ≡ false) (λ (x : Unacked). num' x.client ≡ numbers b x.client) (λ x differ. other x.client differ) (detached c v).out (detached_none c v)
 
 -- its producers change
 pub producer_numbers : (per : ℕ) (b : Broker) (c : ℕ) (s s' : Session) (os : List Out) → session_at b c ≡ Some s → s'.number ≡ s.number

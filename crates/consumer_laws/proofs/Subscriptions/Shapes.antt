@@ -16,7 +16,7 @@ use Rattle.geo_base.specs.Seeking.{restart}
 use Rattle.geo_base.specs.Setup.{Setup, declared_at}
 use Rattle.geo_base.specs.Subscribing.{same_kind}
 use Rattle.geo_base.specs.Subscription.{Subscription}
-use Rattle.geo_base.specs.Updating.{passed_over}
+use Rattle.geo_base.specs.Updating.{updated_indexes}
 use Rattle.geo_base.specs.Link.{next_packet}
 use Rattle.geo_base.specs.Offering.{message}
 use Rattle.geo_base.specs.World.{ToBroker, World, link_at, site, topic_at}
@@ -129,12 +129,12 @@ reads_heads mine es sent per h b y q (Reads.Counts i e id answer u u' next is he
 reads_heads mine es sent per h b y q (Reads.AsksAgain i e id answer u u' next is heard) f = easy mine es sent per b q (tt, (tt, tt)) (tt, (tt, tt)) (tt, (tt, tt)) f
 reads_heads mine es sent per h b y q (Reads.Completes i e id answer u u' next is heard) f = easy mine es sent per b q (tt, (tt, tt)) (tt, (tt, tt)) (tt, (tt, tt)) f
 reads_heads mine es sent per h b y q (Reads.CreatesAt i j e n remote next is named) f =
-    let rest = plan_of (write.Acks n (passed_over y 0 (j + 1) b.entries) ∷ write.SenderAck y i ∷ []) (change.Acked n ∷ change.ReadTo y (i + 1) ∷ []) [] in record {
+    let rest = plan_of (write.Acks n (updated_indexes y 0 (j + 1) b.entries) ∷ write.ReplicatorAck y i ∷ []) (change.Acked n ∷ change.ReadTo y (i + 1) ∷ []) [] in record {
       facts = created_done mine es (numbers b) sent per b n sub_kind.Exclusive true false rest (record { writes = (tt, (tt, tt)); changes = (tt, (tt, tt)) }) f;
       numbers_same = kept_numbers per b q (tt, (tt, tt));
     }
-reads_heads mine es sent per h b y q (Reads.PassesOver i j e n remote v ws next is named after) f =
-    easy mine es sent per b q (tt, each_both EasyWrite ws (write.SenderAck y i ∷ []) (updates_easy h b _ ws after) (tt, tt)) (tt, (tt, tt)) (tt, (tt, tt)) f
+reads_heads mine es sent per h b y q (Reads.ActsOnUpdate i j e n remote v ws next is named after) f =
+    easy mine es sent per b q (tt, each_both EasyWrite ws (write.ReplicatorAck y i ∷ []) (updates_easy h b _ ws after) (tt, tt)) (tt, (tt, tt)) (tt, (tt, tt)) f
 
 snaps_heads : (mine : Makes) (es : List Entry) (sent : ℕ → List Packet) (per : ℕ) (h : Site) (b : Broker) (q : Plan) → Snaps h b q → Before mine es sent b → HeadsDone mine es sent per b q
 snaps_heads mine es sent per h b q Snaps.NothingToAsk f = easy mine es sent per b q tt tt tt f
@@ -153,7 +153,7 @@ offers_heads mine es sent per h b n q (Offers.Gives v i at e due is picked) give
   facts = gave_done mine es (numbers b) sent per b n i at v (key_bytes e.meta.key) q.sent apart due.0 picked (gives n v i at e due picked refl) f;
   numbers_same = kept_numbers per b q (tt, tt);
 }
-offers_heads mine es sent per h b n q (Offers.PassesBy v i e ws due is after) gives apart f = easy mine es sent per b q (tt, updates_easy h b _ ws after) (tt, (tt, tt)) (tt, (tt, tt)) f
+offers_heads mine es sent per h b n q (Offers.SkipsMarker v i e ws due is after) gives apart f = easy mine es sent per b q (tt, updates_easy h b _ ws after) (tt, (tt, tt)) (tt, (tt, tt)) f
 offers_heads mine es sent per h b n q (Offers.Caches v i j e x ws due is after) gives apart f =
     easy mine es sent per b q (tt, updates_easy h b _ ws after) (tt, (tt, (tt, tt))) (tt, (tt, (tt, tt))) f
 

@@ -5,7 +5,7 @@ use Rattle.std.specs.Prelude.{Option, Some, None, if◌then◌else◌, ◌||◌,
 use Rattle.std.specs.List.{list_any}
 use Rattle.std.proofs.lemmas.Bool.{eqb-true, false≢true}
 use Rattle.std.proofs.lemmas.Option.{none-some, same_Some}
-use Rattle.world_laws.proofs.Types.{Consumer, Entry, Outstanding, Packet, Place, Position, SubKind}
+use Rattle.world_laws.proofs.Types.{Consumer, Entry, Unacked, Packet, ClusterRef, Position, SubKind}
 use Rattle.world_laws.proofs.Types.frame
 use Rattle.world_laws.proofs.Types.sub_kind
 use Rattle.geo_base.specs.Cursor.{has}
@@ -19,6 +19,7 @@ use Rattle.world_laws.proofs.OnceInOrder.Members.{get_left}
 use Rattle.world_laws.proofs.Merges.PeerWalk.{each_filter, pick_has}
 use Rattle.world_laws.proofs.Dispatching.Remembers.{any_kept, any_left, not_false}
 use Rattle.world_laws.proofs.Walks.Walk.{on_if, on_test}
+pub use Rattle.geo_base.proofs.Bools.{not_true_false as not_true}
 
 -- ---- what was sent
 
@@ -26,7 +27,7 @@ use Rattle.world_laws.proofs.Walks.Walk.{on_if, on_test}
 pub record Brings (session id : ℕ) (e : Entry) (p : Packet) : Type 0 where
   pub in_session : p.session ≡ session
   pub position : Position
-  pub source : Option Place
+  pub source : Option ClusterRef
   pub is : p.frame ≡ frame.Message id position source e
 
 -- one of some packets does
@@ -47,11 +48,11 @@ pub record GivenTo (es : List Entry) (session : ℕ) (ps : List Packet) (id i : 
   pub stands : slice_get es i ≡ Some entry
   pub carried : Carried ps session id entry
 
-abbrev pub HeadOf : List Entry → (ℕ → ℕ) → (ℕ → List Packet) → List Consumer → Outstanding → Type 0
+abbrev pub HeadOf : List Entry → (ℕ → ℕ) → (ℕ → List Packet) → List Consumer → Unacked → Type 0
 HeadOf es num sent [] o = ⊥
 HeadOf es num sent (k ∷ ks) o = (o.client ≡ k.client) × GivenTo es (num k.client) (sent k.client) k.id o.index
 
-pub record OutFact (es : List Entry) (num : ℕ → ℕ) (sent : ℕ → List Packet) (kind : SubKind) (ks : List Consumer) (o : Outstanding) : Type 0 where
+pub record OutFact (es : List Entry) (num : ℕ → ℕ) (sent : ℕ → List Packet) (kind : SubKind) (ks : List Consumer) (o : Unacked) : Type 0 where
   pub attached : list_any (is_of o.client) ks ≡ true
   pub head : serves_one kind ≡ true → HeadOf es num sent ks o
 
@@ -73,7 +74,7 @@ pub record Grows (mine mine' : Makes) (es es' : List Entry) (num num' : ℕ → 
   pub entries : (i : ℕ) (e : Entry) → slice_get es i ≡ Some e → slice_get es' i ≡ Some e
   pub packets : (c : ℕ) (session id : ℕ) (e : Entry) → Carried (sent c) session id e → Carried (sent' c) session id e
 
-head_grows : (mine mine' : Makes) (es es' : List Entry) (num num' : ℕ → ℕ) (sent sent' : ℕ → List Packet) → Grows mine mine' es es' num num' sent sent' → (ks : List Consumer) (o : Outstanding)
+head_grows : (mine mine' : Makes) (es es' : List Entry) (num num' : ℕ → ℕ) (sent sent' : ℕ → List Packet) → Grows mine mine' es es' num num' sent sent' → (ks : List Consumer) (o : Unacked)
     → num' o.client ≡ num o.client → HeadOf es num sent ks o → HeadOf es' num' sent' ks o
 head_grows mine mine' es es' num num' sent sent' g [] o same h = absurd h
 head_grows mine mine' es es' num num' sent sent' g (k ∷ ks) o same h =
@@ -88,7 +89,7 @@ head_grows mine mine' es es' num num' sent sent' g (k ∷ ks) o same h =
     )
 
 abbrev pub SameNumbers : (ℕ → ℕ) → (ℕ → ℕ) → Subscription → Type 0
-SameNumbers num num' v = Each (λ (o : Outstanding). num' o.client ≡ num o.client) v.out
+SameNumbers num num' v = Each (λ (o : Unacked). num' o.client ≡ num o.client) v.out
 
 pub each_two : {X : Type 0} (P Q R : X → Type 0) → ((x : X) → P x → Q x → R x) → (xs : List X) → Each P xs → Each Q xs → Each R xs
 each_two P Q R f [] h k = tt
@@ -98,7 +99,7 @@ pub fact_grows : (mine mine' : Makes) (es es' : List Entry) (num num' : ℕ → 
     → SameNumbers num num' v → SubFact mine es num sent v → SubFact mine' es' num' sent' v
 fact_grows mine mine' es es' num num' sent sent' g v same h = record {
   consumers = each_map (IsMade mine v.name v.kind) (IsMade mine' v.name v.kind) (λ k m. g.made v.name v.kind k.client k.id m) v.consumers h.consumers;
-  out = each_two (OutFact es num sent v.kind v.consumers) (λ (o : Outstanding). num' o.client ≡ num o.client) (OutFact es' num' sent' v.kind v.consumers)
+  out = each_two (OutFact es num sent v.kind v.consumers) (λ (o : Unacked). num' o.client ≡ num o.client) (OutFact es' num' sent' v.kind v.consumers)
       (λ o f e. record { attached = f.attached; head = λ one. head_grows mine mine' es es' num num' sent sent' g v.consumers o e (f.head one) }) v.out h.out same;
 }
 
@@ -110,10 +111,10 @@ cleared_fact mine es num sent v = record { consumers = tt; out = tt }
 pub acked_fact : (mine : Makes) (es : List Entry) (num : ℕ → ℕ) (sent : ℕ → List Packet) (v : Subscription) → SubFact mine es num sent v → SubFact mine es num sent (after_acks v)
 acked_fact mine es num sent v h = record {
   consumers = h.consumers;
-  out = each_filter (OutFact es num sent v.kind v.consumers) (λ (o : Outstanding). not (has v.cursor o.index)) v.out h.out;
+  out = each_filter (OutFact es num sent v.kind v.consumers) (λ (o : Unacked). not (has v.cursor o.index)) v.out h.out;
 }
 
-head_attached : (es : List Entry) (num : ℕ → ℕ) (sent : ℕ → List Packet) (ks : List Consumer) (k : Consumer) (o : Outstanding) → HeadOf es num sent ks o → HeadOf es num sent (ks ++ k ∷ []) o
+head_attached : (es : List Entry) (num : ℕ → ℕ) (sent : ℕ → List Packet) (ks : List Consumer) (k : Consumer) (o : Unacked) → HeadOf es num sent ks o → HeadOf es num sent (ks ++ k ∷ []) o
 head_attached es num sent [] k o h = absurd h
 head_attached es num sent (x ∷ ks) k o h = h
 
@@ -136,7 +137,7 @@ permits_made : (mine : Makes) (m : List ℕ) (kind : SubKind) (c n : ℕ) (ks : 
 permits_made mine m kind c n [] h = tt
 permits_made mine m kind c n (k ∷ ks) h = (same_made mine m kind c n k h.0, permits_made mine m kind c n ks h.1)
 
-permits_head : (es : List Entry) (num : ℕ → ℕ) (sent : ℕ → List Packet) (c n : ℕ) (ks : List Consumer) (o : Outstanding) → HeadOf es num sent ks o → HeadOf es num sent (map (permits_more c n) ks) o
+permits_head : (es : List Entry) (num : ℕ → ℕ) (sent : ℕ → List Packet) (c n : ℕ) (ks : List Consumer) (o : Unacked) → HeadOf es num sent ks o → HeadOf es num sent (map (permits_more c n) ks) o
 permits_head es num sent c n [] o h = absurd h
 permits_head es num sent c n (k ∷ ks) o h =
     on_if (λ (x : Consumer). (o.client ≡ x.client) × GivenTo es (num x.client) (sent x.client) x.id o.index) (is_of c k) (record k { permits = min most_permits (k.permits + n) }) k h h
@@ -159,7 +160,7 @@ permitted_fact mine es num sent c n v h = record {
 }
 
 -- a client leaves
-head_detached : (es : List Entry) (num : ℕ → ℕ) (sent : ℕ → List Packet) (c : ℕ) (ks : List Consumer) (o : Outstanding) → (o.client == c) ≡ false → HeadOf es num sent ks o
+head_detached : (es : List Entry) (num : ℕ → ℕ) (sent : ℕ → List Packet) (c : ℕ) (ks : List Consumer) (o : Unacked) → (o.client == c) ≡ false → HeadOf es num sent ks o
     → HeadOf es num sent (filter (λ (k : Consumer). not (is_of c k)) ks) o
 head_detached es num sent c [] o other h = absurd h
 head_detached es num sent c (k ∷ ks) o other h =
@@ -177,32 +178,28 @@ each_passed P Q p f (x ∷ xs) h =
     let rest = each_passed P Q p f xs h.1 in
     on_test (Each Q) (p x) (x ∷ filter p xs) (filter p xs) (λ is. (f x is h.0, rest)) (λ out. rest)
 
-pub not_true : (b : Bool) → not b ≡ true → b ≡ false
-not_true true h = absurd (false≢true h)
-not_true false h = refl
-
 pub detached_fact : (mine : Makes) (es : List Entry) (num : ℕ → ℕ) (sent : ℕ → List Packet) (c : ℕ) (v : Subscription) → SubFact mine es num sent v → SubFact mine es num sent (detached c v)
 detached_fact mine es num sent c v h = record {
   consumers = each_filter (IsMade mine v.name v.kind) (λ (k : Consumer). not (is_of c k)) v.consumers h.consumers;
   out = each_passed (OutFact es num sent v.kind v.consumers) (OutFact es num sent v.kind (filter (λ (k : Consumer). not (is_of c k)) v.consumers))
-      (λ (o : Outstanding). not (o.client == c))
+      (λ (o : Unacked). not (o.client == c))
       (λ o left f.
       let other = not_true (o.client == c) left in
       record { attached = any_detached c o.client v.consumers other f.attached; head = λ one. head_detached es num sent c v.consumers o other (f.head one) }) v.out h.out;
 }
 
 -- and then nothing is out with it
-pub detached_none : (c : ℕ) (v : Subscription) → Each (λ (o : Outstanding). (o.client == c) ≡ false) (detached c v).out
+pub detached_none : (c : ℕ) (v : Subscription) → Each (λ (o : Unacked). (o.client == c) ≡ false) (detached c v).out
 detached_none c v =
-    each_passed (λ (o : Outstanding). Unit {0}) (λ (o : Outstanding). (o.client == c) ≡ false) (λ (o : Outstanding). not (o.client == c)) (λ o left u. not_true (o.client == c) left) v.out (all v.out)
+    each_passed (λ (o : Unacked). Unit {0}) (λ (o : Unacked). (o.client == c) ≡ false) (λ (o : Unacked). not (o.client == c)) (λ o left u. not_true (o.client == c) left) v.out (all v.out)
   where
-    all : (os : List Outstanding) → Each (λ (o : Outstanding). Unit {0}) os
+    all : (os : List Unacked) → Each (λ (o : Unacked). Unit {0}) os
     all [] = tt
     all (o ∷ os) = (tt, all os)
 
 -- ---- a message is given
 
-each_with_out : (P : Outstanding → Type 0) (xs : List Outstanding) (o : Outstanding) → P o → Each P xs → Each P (with_out xs o)
+each_with_out : (P : Unacked → Type 0) (xs : List Unacked) (o : Unacked) → P o → Each P xs → Each P (with_out xs o)
 each_with_out P [] o p h = (p, tt)
 each_with_out P (x ∷ xs) o p h =
     on_if (Each P) (nat_lt o.index x.index) (o ∷ x ∷ xs) _ (p, h)
@@ -230,7 +227,7 @@ first_picked sub_kind.Shared ks key at one h = absurd (false≢true one)
 first_picked sub_kind.KeyShared ks key at one h = absurd (false≢true one)
 
 -- the first stays the first
-served_head : (es : List Entry) (num : ℕ → ℕ) (sent : ℕ → List Packet) (kind : SubKind) (ks : List Consumer) (at : ℕ) (o : Outstanding) → serves_one kind ≡ true → at ≡ 0
+served_head : (es : List Entry) (num : ℕ → ℕ) (sent : ℕ → List Packet) (kind : SubKind) (ks : List Consumer) (at : ℕ) (o : Unacked) → serves_one kind ≡ true → at ≡ 0
     → HeadOf es num sent ks o → HeadOf es num sent (served kind ks at) o
 served_head es num sent sub_kind.Shared ks at o one is h = absurd (false≢true one)
 served_head es num sent sub_kind.KeyShared ks at o one is h = absurd (false≢true one)
@@ -299,7 +296,7 @@ given_fact mine es num sent i at v key picked new h = record {
     ks' : List Consumer
     ks' = served v.kind v.consumers at
 
-    o : Outstanding
+    o : Unacked
     o = record { index = i; client = (consumer_at v.consumers at).client }
 
     permit : 0 < (consumer_at v.consumers at).permits

@@ -2,7 +2,7 @@
 use Rattle.std.proofs.Common.{◌≡◌, ℕ, ◌<◌, false, List, [], ◌∷◌, length, refl, sym, ap, subst, arith, inl, inr}
 use Rattle.std.specs.Prelude.{Option, Some, slice_get, slice_index_or, slice_set}
 use Rattle.std.proofs.lemmas.Option.{none-some}
-use Rattle.world_laws.proofs.Types.{Consumer, Entry, Held, Out, Packet, Peer, Place, Position, SubKind}
+use Rattle.world_laws.proofs.Types.{Consumer, Entry, Held, Out, Packet, Peer, ClusterRef, Position, SubKind}
 use Rattle.world_laws.proofs.Types.frame
 use Rattle.world_laws.proofs.Types.peer
 use Rattle.geo_base.specs.Broker.{Broker, no_broker, sub_named}
@@ -113,7 +113,7 @@ given_push s told w t y c x stamp n v i at e l a lt named due stands picked mine
     pos : Position
     pos = position_at b.ledgers i
 
-    src : Option Place
+    src : Option ClusterRef
     src = source_of y e
 
     m : MayGive s told w t y b v i at e
@@ -137,7 +137,7 @@ acts_push s told w t y c x stamp m p a lt (Acts.Giving n v i at e named least la
 
 -- ---- an event that is done
 
--- the links behind it
+-- the links after it
 abbrev pub DoneLinks : Setup → World → Planned → ℕ → Links
 DoneLinks s w p stamp = taken_from p.takes (delivered (from_broker s p.topic p.cluster) stamp p.plan.sent w.links)
 

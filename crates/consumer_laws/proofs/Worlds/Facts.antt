@@ -1,7 +1,7 @@
 -- What is known of clients' links, of what clients hold and of consumers, told being what is handed out so far.
 use Rattle.std.proofs.Common.{◌≡◌, ℕ, ◌<◌, ◌≤◌, true, List, [], ◌∷◌, ◌++◌, length, sym, subst, arith}
 use Rattle.std.specs.Prelude.{Option, Some, slice_get, take}
-use Rattle.world_laws.proofs.Types.{Entry, Frame, Held, Packet, Place, Position, SubKind}
+use Rattle.world_laws.proofs.Types.{Entry, Frame, Held, Packet, ClusterRef, Position, SubKind}
 use Rattle.world_laws.proofs.Types.frame
 use Rattle.geo_base.specs.Broker.{Broker}
 use Rattle.geo_base.specs.Client.{Client, id_of}
@@ -70,7 +70,7 @@ pub data Passed (told : SettledSoFar) (t : ℕ) (n : List ℕ) (before : List Pa
   IsHanded : IsSettled told t n f → Passed told t n before session id f
   Earlier : Carried before session id f → Passed told t n before session id f
 
-pub record Sent (told : SettledSoFar) (t x : ℕ) (b : Broker) (d : Declared) (done : ℕ) (before : List Packet) (session id : ℕ) (p : Position) (source : Option Place) (e : Entry) : Type 0 where
+pub record Sent (told : SettledSoFar) (t x : ℕ) (b : Broker) (d : Declared) (done : ℕ) (before : List Packet) (session id : ℕ) (p : Position) (source : Option ClusterRef) (e : Entry) : Type 0 where
   pub below : id < done
   pub index : ℕ
   pub at : index_of b.ledgers p ≡ Some index

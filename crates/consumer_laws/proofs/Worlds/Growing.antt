@@ -1,6 +1,6 @@
 -- What is known stays so as topics and what is told grow; and what a broker knows of a message that it gives.
-use Rattle.std.proofs.Common.{◌≡◌, ℕ, zero, suc, ◌<◌, ◌≤◌, true, List, [], ◌∷◌, length, refl, sym, ap, subst, ◌∙◌, arith, inl, inr}
-use Rattle.std.specs.Prelude.{Some, slice_get, slice_index_or, take}
+use Rattle.std.proofs.Common.{◌≡◌, ℕ, zero, suc, ◌<◌, true, List, [], ◌∷◌, length, refl, sym, ap, subst, ◌∙◌, arith, inl, inr}
+use Rattle.std.specs.Prelude.{Some, slice_get, take}
 use Rattle.std.proofs.lemmas.Option.{none-some, same_Some}
 use Rattle.world_laws.proofs.Types.{Consumer, Entry, Line, Packet, SubKind}
 use Rattle.world_laws.proofs.Types.frame
@@ -36,6 +36,7 @@ use Rattle.consumer_laws.proofs.Subscriptions.LeastDue.{gives_order}
 use Rattle.consumer_laws.proofs.Worlds.Facts.{LinkFact, MadeBy, Passed, Sent, TakenFact, down_grows, taken_grows}
 use Rattle.consumer_laws.proofs.Subscriptions.Plans.{numbers}
 use Rattle.consumer_laws.proofs.Subscriptions.WhatIsOut.{Carried, IsMade, Makes, SubFact}
+pub use Rattle.geo_base.proofs.Lists.{index_or_past as past_none}
 
 -- ---- facts grow
 
@@ -56,12 +57,6 @@ link_grows told more t x b b' d k sent l inc g h = record {
 -- what was sent on it before is there
 pub link_same : (told : SettledSoFar) (t x : ℕ) (b : Broker) (d : Declared) (k : Client) (sent : List Packet) (l : Link) → LinkFact told t x b d k sent l → LinkFact told t x b d k l.sent l
 link_same told t x b d k sent l h = record { extends = λ session id e c. c; after = h.after; whole = h.whole; taken = h.taken }
-
--- who has a line is a client of the setup
-pub past_none : {X : Type 0} (xs : List X) (i : ℕ) (d : X) → length xs ≤ i → slice_index_or xs i d ≡ d
-past_none [] i d le = refl
-past_none (x ∷ xs) zero d le = absurd (omega (arith, le))
-past_none (x ∷ xs) (suc i) d le = past_none xs i d (omega (arith, le))
 
 pub client_there : (s : Setup) (c i : ℕ) (n : List ℕ) (kind : SubKind) → IsKindLine (declared_at s c) i n kind → c < length s.clients
 client_there s c i n kind h =
@@ -107,7 +102,7 @@ pub record MayGive (s : Setup) (told : SettledSoFar) (w : World) (t x : ℕ) (b 
   pub stands : IsEntry b i e
   pub picked : pick v.kind v.consumers (key_bytes e.meta.key) ≡ Some at
 
--- its packet, behind packets among which are all that were sent to that client before
+-- its packet, after packets among which are all that were sent to that client before
 pub gives_sent : (s : Setup) (told : SettledSoFar) (w : World) (t x : ℕ) (b : Broker) (v : Subscription) (i at : ℕ) (e : Entry) (before : List Packet) → MayGive s told w t x b v i at e
     → let k = consumer_at v.consumers at in ((session id : ℕ) (f : Entry) → Carried (SentDown w.links k.client x) session id f → Carried before session id f)
     → Sent told t x b (declared_at s k.client) (client_at s w k.client).done before (numbers b k.client) k.id (position_at b.ledgers i) (source_of x e) e

@@ -1,4 +1,4 @@
--- How an index comes into a sender's cursor: by a receipt of what is awaited, or by a read of it. All else leaves it out.
+-- How an index comes into a replicator's cursor: by a receipt of what is awaited, or by a read of it. All else leaves it out.
 use Rattle.std.proofs.Common.{◌≡◌, ℕ, zero, suc, ◌<◌, Bool, true, false, List, [], ◌∷◌, length, refl, sym, ap, subst, ◌∙◌, ◌==◌, inl, inr}
 use Rattle.std.specs.Prelude.{Option, Some, None, if◌then◌else◌, slice_get, take}
 use Rattle.std.proofs.lemmas.Bool.{eqb-true}
@@ -6,16 +6,16 @@ use Rattle.std.proofs.lemmas.Option.{none-some, same_Some}
 use Rattle.world_laws.proofs.Types.{Change, Fate, Packet, Pending, Position, Session, Write}
 use Rattle.world_laws.proofs.Types.change
 use Rattle.world_laws.proofs.Types.write
-use Rattle.geo_base.specs.Broker.{Broker, Site, sender_at, session_at}
+use Rattle.geo_base.specs.Broker.{Broker, Site, replicator_at, session_at}
 use Rattle.geo_base.specs.Cursor.{has, with_index}
 use Rattle.geo_base.specs.Forwarding.{closes, is_remote, receipt, reset, take_packet}
 use Rattle.geo_base.specs.Plan.{Plan, done, halted, quiet_plan}
 use Rattle.geo_base.specs.Seeking.{restart}
-use Rattle.geo_base.specs.Sender.{Sender, index_to_read, pending_index, without_number}
+use Rattle.geo_base.specs.Replicator.{Replicator, index_to_read, pending_index, without_number}
 use Rattle.geo_base.specs.Serving.{drop_client, drop_session, serve}
 use Rattle.geo_base.specs.Subscription.{Subscription}
 use Rattle.world_laws.proofs.Replicating.Cursors.{has_less}
-use Rattle.world_laws.proofs.Replicating.Effects.{Each, done_sender, each_both, each_take, halted_sender, sender_after, sender_changed, sender_then, sender_written}
+use Rattle.world_laws.proofs.Replicating.Effects.{Each, done_replicator, each_both, each_take, halted_replicator, replicator_after, replicator_changed, replicator_then, replicator_written}
 use Rattle.world_laws.proofs.Walks.LinkWalk.{fate_answered, fate_taken}
 use Rattle.world_laws.proofs.Walks.ServeWalk.{frame_served}
 use Rattle.world_laws.proofs.Walks.Shapes.{Answered, Fated, Offers, Reads, Seeks, Served, Snaps, Taken, Updates}
@@ -23,16 +23,16 @@ use Rattle.world_laws.proofs.Walks.Walk.{on_if}
 
 -- ---- writes and changes
 
--- a write that does not acknowledge index i on the sender to y
+-- a write that does not acknowledge index i on the replicator to y
 abbrev pub LeavesIndex : ℕ → ℕ → Write → Type 0
-LeavesIndex y i (write.SenderAck z k) = z ≡ y → k ≡ i → ⊥
+LeavesIndex y i (write.ReplicatorAck z k) = z ≡ y → k ≡ i → ⊥
 LeavesIndex y i w = Unit {0}
 
 abbrev pub LeaveIndex : ℕ → ℕ → List Write → Type 0
 LeaveIndex y i ws = Each (LeavesIndex y i) ws
 
-index_left : (y i : ℕ) (s : Sender) (w : Write) → LeavesIndex y i w → has (sender_written y s w).cursor i ≡ true → has s.cursor i ≡ true
-index_left y i s (write.SenderAck z k) l h = by (z == y) refl h
+index_left : (y i : ℕ) (s : Replicator) (w : Write) → LeavesIndex y i w → has (replicator_written y s w).cursor i ≡ true → has s.cursor i ≡ true
+index_left y i s (write.ReplicatorAck z k) l h = by (z == y) refl h
   where
     by : (b : Bool) → (z == y) ≡ b → has (if b then record s { cursor = with_index s.cursor k } else s).cursor i ≡ true → has s.cursor i ≡ true
     by true e h = elim (has_less s.cursor k i h) [ inl same ↦ absurd (l (eqb-true z y e) same) | inr old ↦ old ]
@@ -50,39 +50,39 @@ index_left y i s (write.Acks n is) l h = h
 index_left y i s (write.Seek n k) l h = h
 index_left y i s write.Ledger l h = h
 
-writes_left : (y i : ℕ) (s : Sender) (ws : List Write) → LeaveIndex y i ws → has (sender_after y s ws).cursor i ≡ true → has s.cursor i ≡ true
+writes_left : (y i : ℕ) (s : Replicator) (ws : List Write) → LeaveIndex y i ws → has (replicator_after y s ws).cursor i ≡ true → has s.cursor i ≡ true
 writes_left y i s [] l h = h
-writes_left y i s (w ∷ ws) l h = index_left y i s w l.0 (writes_left y i (sender_written y s w) ws l.1 h)
+writes_left y i s (w ∷ ws) l h = index_left y i s w l.0 (writes_left y i (replicator_written y s w) ws l.1 h)
 
-change_left : (y : ℕ) (s : Sender) (c : Change) → (sender_changed y s c).cursor ≡ s.cursor
-change_left y s (change.Opening z) = on_if (λ (v : Sender). v.cursor ≡ s.cursor) (z == y) _ _ refl refl
-change_left y s (change.Opened z) = on_if (λ (v : Sender). v.cursor ≡ s.cursor) (z == y) _ _ refl refl
-change_left y s (change.Pend z i) = on_if (λ (v : Sender). v.cursor ≡ s.cursor) (z == y) _ _ refl refl
-change_left y s (change.ReadTo z i) = on_if (λ (v : Sender). v.cursor ≡ s.cursor) (z == y) _ _ refl refl
-change_left y s (change.Unpend z n) = on_if (λ (v : Sender). v.cursor ≡ s.cursor) (z == y) _ _ refl refl
+change_left : (y : ℕ) (s : Replicator) (c : Change) → (replicator_changed y s c).cursor ≡ s.cursor
+change_left y s (change.Opening z) = on_if (λ (v : Replicator). v.cursor ≡ s.cursor) (z == y) _ _ refl refl
+change_left y s (change.Opened z) = on_if (λ (v : Replicator). v.cursor ≡ s.cursor) (z == y) _ _ refl refl
+change_left y s (change.Pend z i) = on_if (λ (v : Replicator). v.cursor ≡ s.cursor) (z == y) _ _ refl refl
+change_left y s (change.ReadTo z i) = on_if (λ (v : Replicator). v.cursor ≡ s.cursor) (z == y) _ _ refl refl
+change_left y s (change.Unpend z n) = on_if (λ (v : Replicator). v.cursor ≡ s.cursor) (z == y) _ _ refl refl
 change_left y s change.Forget = refl
 change_left y s c = refl
 
-pub changes_left : (y : ℕ) (s : Sender) (cs : List Change) → (sender_then y s cs).cursor ≡ s.cursor
+pub changes_left : (y : ℕ) (s : Replicator) (cs : List Change) → (replicator_then y s cs).cursor ≡ s.cursor
 changes_left y s [] = refl
-changes_left y s (c ∷ cs) = changes_left y (sender_changed y s c) cs ∙ change_left y s c
+changes_left y s (c ∷ cs) = changes_left y (replicator_changed y s c) cs ∙ change_left y s c
 
-pub done_left : (per : ℕ) (b : Broker) (y i : ℕ) (p : Plan) → y < length b.senders → LeaveIndex y i p.writes → has (sender_at (done per b p) y).cursor i ≡ true
-    → has (sender_at b y).cursor i ≡ true
+pub done_left : (per : ℕ) (b : Broker) (y i : ℕ) (p : Plan) → y < length b.replicators → LeaveIndex y i p.writes → has (replicator_at (done per b p) y).cursor i ≡ true
+    → has (replicator_at b y).cursor i ≡ true
 done_left per b y i p lt l h =
-    writes_left y i (sender_at b y) p.writes l
-    (subst (λ (set : List ℕ). has set i ≡ true) (ap (λ (v : Sender). v.cursor) (done_sender per b y p lt) ∙ changes_left y (sender_after y (sender_at b y) p.writes) p.changes) h)
+    writes_left y i (replicator_at b y) p.writes l
+    (subst (λ (set : List ℕ). has set i ≡ true) (ap (λ (v : Replicator). v.cursor) (done_replicator per b y p lt) ∙ changes_left y (replicator_after y (replicator_at b y) p.writes) p.changes) h)
 
-pub halted_left : (per : ℕ) (b : Broker) (y i k : ℕ) (p : Plan) → y < length b.senders → LeaveIndex y i (take k p.writes) → has (sender_at (halted per b k p) y).cursor i ≡ true
-    → has (sender_at b y).cursor i ≡ true
+pub halted_left : (per : ℕ) (b : Broker) (y i k : ℕ) (p : Plan) → y < length b.replicators → LeaveIndex y i (take k p.writes) → has (replicator_at (halted per b k p) y).cursor i ≡ true
+    → has (replicator_at b y).cursor i ≡ true
 halted_left per b y i k p lt l h =
-    writes_left y i (sender_at b y) (take k p.writes) l
-    (subst (λ (set : List ℕ). has set i ≡ true) (ap (λ (v : Sender). v.cursor) (halted_sender per b y k p lt)) h)
+    writes_left y i (replicator_at b y) (take k p.writes) l
+    (subst (λ (set : List ℕ). has set i ≡ true) (ap (λ (v : Replicator). v.cursor) (halted_replicator per b y k p lt)) h)
 
 pub take_leaves_index : (y i k : ℕ) (ws : List Write) → LeaveIndex y i ws → LeaveIndex y i (take k ws)
 take_leaves_index y i k ws l = each_take (LeavesIndex y i) k ws l
 
--- ---- plans that acknowledge nothing on a sender
+-- ---- plans that acknowledge nothing on a replicator
 
 updates_index : (y i : ℕ) (h : Site) (b : Broker) (v : Subscription) (ws : List Write) → Updates h b v ws → LeaveIndex y i ws
 updates_index y i h b v ws Updates.NoUpdate = tt
@@ -119,7 +119,7 @@ snaps_index y i h b q (Snaps.Asks any none) = (tt, tt)
 pub offers_index : (y i : ℕ) (h : Site) (b : Broker) (n : List ℕ) (q : Plan) → Offers h b n q → LeaveIndex y i q.writes
 offers_index y i h b n q Offers.NothingToOffer = tt
 offers_index y i h b n q (Offers.Gives v k at e due is picked) = tt
-offers_index y i h b n q (Offers.PassesBy v k e ws due is after) = (tt, updates_index y i h b _ ws after)
+offers_index y i h b n q (Offers.SkipsMarker v k e ws due is after) = (tt, updates_index y i h b _ ws after)
 offers_index y i h b n q (Offers.Caches v k j e c ws due is after) = (tt, updates_index y i h b _ ws after)
 
 pub seeks_index : (y i : ℕ) (h : Site) (b : Broker) (n : List ℕ) (to : Option Position) (q : Plan) → Seeks h b n to q → LeaveIndex y i q.writes
@@ -130,24 +130,24 @@ seeks_index y i h b n to q (Seeks.SeeksTo v k ws named at after) = (tt, updates_
 
 -- what is left out is what is read next
 pub reads_index : (y i z : ℕ) (h : Site) (b : Broker) (q : Plan) → Reads h b z q
-    → (z ≡ y → index_to_read (sender_at b z).state (sender_at b z) (length b.entries) ≡ Some i → ⊥) → LeaveIndex y i q.writes
+    → (z ≡ y → index_to_read (replicator_at b z).state (replicator_at b z) (length b.entries) ≡ Some i → ⊥) → LeaveIndex y i q.writes
 reads_index y i z h b q Reads.NothingToRead other = tt
 reads_index y i z h b q (Reads.Forwards k e next out) other = tt
-reads_index y i z h b q (Reads.Skips k e next out) other = (λ is same. other is (subst (λ (l : ℕ). index_to_read (sender_at b z).state (sender_at b z) (length b.entries) ≡ Some l) same next.1), tt)
+reads_index y i z h b q (Reads.Skips k e next out) other = (λ is same. other is (subst (λ (l : ℕ). index_to_read (replicator_at b z).state (replicator_at b z) (length b.entries) ≡ Some l) same next.1), tt)
 reads_index y i z h b q (Reads.Responds k e id source next of is') other =
-    (tt, ((λ is same. other is (subst (λ (l : ℕ). index_to_read (sender_at b z).state (sender_at b z) (length b.entries) ≡ Some l) same next.1)), tt))
+    (tt, ((λ is same. other is (subst (λ (l : ℕ). index_to_read (replicator_at b z).state (replicator_at b z) (length b.entries) ≡ Some l) same next.1)), tt))
 reads_index y i z h b q (Reads.Counts k e id answer u u' next is' heard) other =
-    (λ is same. other is (subst (λ (l : ℕ). index_to_read (sender_at b z).state (sender_at b z) (length b.entries) ≡ Some l) same next.1), tt)
+    (λ is same. other is (subst (λ (l : ℕ). index_to_read (replicator_at b z).state (replicator_at b z) (length b.entries) ≡ Some l) same next.1), tt)
 reads_index y i z h b q (Reads.AsksAgain k e id answer u u' next is' heard) other =
-    (tt, ((λ is same. other is (subst (λ (l : ℕ). index_to_read (sender_at b z).state (sender_at b z) (length b.entries) ≡ Some l) same next.1)), tt))
+    (tt, ((λ is same. other is (subst (λ (l : ℕ). index_to_read (replicator_at b z).state (replicator_at b z) (length b.entries) ≡ Some l) same next.1)), tt))
 reads_index y i z h b q (Reads.Completes k e id answer u u' next is' heard) other =
-    (tt, ((λ is same. other is (subst (λ (l : ℕ). index_to_read (sender_at b z).state (sender_at b z) (length b.entries) ≡ Some l) same next.1)), tt))
+    (tt, ((λ is same. other is (subst (λ (l : ℕ). index_to_read (replicator_at b z).state (replicator_at b z) (length b.entries) ≡ Some l) same next.1)), tt))
 reads_index y i z h b q (Reads.CreatesAt k j e n told next is' named) other =
-    (tt, (tt, ((λ is same. other is (subst (λ (l : ℕ). index_to_read (sender_at b z).state (sender_at b z) (length b.entries) ≡ Some l) same next.1)), tt)))
-reads_index y i z h b q (Reads.PassesOver k j e n told v ws next is' named after) other = (
+    (tt, (tt, ((λ is same. other is (subst (λ (l : ℕ). index_to_read (replicator_at b z).state (replicator_at b z) (length b.entries) ≡ Some l) same next.1)), tt)))
+reads_index y i z h b q (Reads.ActsOnUpdate k j e n told v ws next is' named after) other = (
   tt,
-  each_both (LeavesIndex y i) ws (write.SenderAck z k ∷ []) (updates_index y i h b _ ws after)
-      ((λ is same. other is (subst (λ (l : ℕ). index_to_read (sender_at b z).state (sender_at b z) (length b.entries) ≡ Some l) same next.1)), tt),
+  each_both (LeavesIndex y i) ws (write.ReplicatorAck z k ∷ []) (updates_index y i h b _ ws after)
+      ((λ is same. other is (subst (λ (l : ℕ). index_to_read (replicator_at b z).state (replicator_at b z) (length b.entries) ≡ Some l) same next.1)), tt),
 )
 
 -- ---- a receipt of another index
@@ -168,8 +168,8 @@ less_awaited : (i n : ℕ) (ps : List Pending) → NotAwaited i ps → NotAwaite
 less_awaited i n [] l = tt
 less_awaited i n (d ∷ ps) l = on_if (NotAwaited i) (d.number == n) _ _ l.1 (l.0, less_awaited i n ps l.1)
 
-answered_index : (y i z : ℕ) (b : Broker) (p : Packet) (q : Plan) → Answered b z p q → (z ≡ y → NotAwaited i (sender_at b z).pending) → LeaveIndex y i q.writes
-answered_index y i z b p q (Answered.Received id n k position at is awaited) l = (λ is same. awaited_not i n k (sender_at b z).pending (l is) awaited same, tt)
+answered_index : (y i z : ℕ) (b : Broker) (p : Packet) (q : Plan) → Answered b z p q → (z ≡ y → NotAwaited i (replicator_at b z).pending) → LeaveIndex y i q.writes
+answered_index y i z b p q (Answered.Received id n k position at is awaited) l = (λ is same. awaited_not i n k (replicator_at b z).pending (l is) awaited same, tt)
 answered_index y i z b p q (Answered.Stale other) l = tt
 answered_index y i z b p q (Answered.Other at other) l = tt
 answered_index y i z b p q (Answered.Opened request name at is state) l = tt
@@ -178,9 +178,9 @@ answered_index y i z b p q (Answered.ClosedBefore request name at is state) l = 
 answered_index y i z b p q (Answered.ReceivedBefore id n position at is awaited) l = tt
 
 -- the first of two receipts leaves no more awaited than there were
-written_awaits : (y i : ℕ) (s : Sender) (w : Write) → NotAwaited i s.pending → NotAwaited i (sender_written y s w).pending
-written_awaits y i s (write.SenderAck z k) l = on_if (λ (v : Sender). NotAwaited i v.pending) (z == y) _ _ l l
-written_awaits y i s (write.SessionNumber z n) l = on_if (λ (v : Sender). NotAwaited i v.pending) (z == y) _ _ l l
+written_awaits : (y i : ℕ) (s : Replicator) (w : Write) → NotAwaited i s.pending → NotAwaited i (replicator_written y s w).pending
+written_awaits y i s (write.ReplicatorAck z k) l = on_if (λ (v : Replicator). NotAwaited i v.pending) (z == y) _ _ l l
+written_awaits y i s (write.SessionNumber z n) l = on_if (λ (v : Replicator). NotAwaited i v.pending) (z == y) _ _ l l
 written_awaits y i s (write.Append e) l = l
 written_awaits y i s (write.Create n kind replicated latest) l = l
 written_awaits y i s (write.Alter n kind replicated) l = l
@@ -194,18 +194,18 @@ IsCalm (change.Opened z) = Unit {0}
 IsCalm (change.Unpend z n) = Unit {0}
 IsCalm c = ⊥
 
-changed_awaits : (y i : ℕ) (s : Sender) (c : Change) → IsCalm c → NotAwaited i s.pending → NotAwaited i (sender_changed y s c).pending
-changed_awaits y i s (change.Opened z) calm l = on_if (λ (v : Sender). NotAwaited i v.pending) (z == y) _ _ l l
-changed_awaits y i s (change.Unpend z n) calm l = on_if (λ (v : Sender). NotAwaited i v.pending) (z == y) _ _ (less_awaited i n s.pending l) l
+changed_awaits : (y i : ℕ) (s : Replicator) (c : Change) → IsCalm c → NotAwaited i s.pending → NotAwaited i (replicator_changed y s c).pending
+changed_awaits y i s (change.Opened z) calm l = on_if (λ (v : Replicator). NotAwaited i v.pending) (z == y) _ _ l l
+changed_awaits y i s (change.Unpend z n) calm l = on_if (λ (v : Replicator). NotAwaited i v.pending) (z == y) _ _ (less_awaited i n s.pending l) l
 changed_awaits y i s c calm l = absurd calm
 
-after_awaits : (y i : ℕ) (s : Sender) (ws : List Write) → NotAwaited i s.pending → NotAwaited i (sender_after y s ws).pending
+after_awaits : (y i : ℕ) (s : Replicator) (ws : List Write) → NotAwaited i s.pending → NotAwaited i (replicator_after y s ws).pending
 after_awaits y i s [] l = l
-after_awaits y i s (w ∷ ws) l = after_awaits y i (sender_written y s w) ws (written_awaits y i s w l)
+after_awaits y i s (w ∷ ws) l = after_awaits y i (replicator_written y s w) ws (written_awaits y i s w l)
 
-then_awaits : (y i : ℕ) (s : Sender) (cs : List Change) → Each IsCalm cs → NotAwaited i s.pending → NotAwaited i (sender_then y s cs).pending
+then_awaits : (y i : ℕ) (s : Replicator) (cs : List Change) → Each IsCalm cs → NotAwaited i s.pending → NotAwaited i (replicator_then y s cs).pending
 then_awaits y i s [] calm l = l
-then_awaits y i s (c ∷ cs) calm l = then_awaits y i (sender_changed y s c) cs calm.1 (changed_awaits y i s c calm.0 l)
+then_awaits y i s (c ∷ cs) calm l = then_awaits y i (replicator_changed y s c) cs calm.1 (changed_awaits y i s c calm.0 l)
 
 answered_calm : (b : Broker) (z : ℕ) (p : Packet) (q : Plan) → Answered b z p q → Each IsCalm q.changes
 answered_calm b z p q (Answered.Received id n k position at is awaited) = (tt, tt)
@@ -216,11 +216,11 @@ answered_calm b z p q (Answered.OpenBefore request name at is state) = tt
 answered_calm b z p q (Answered.ClosedBefore request name at is state) = tt
 answered_calm b z p q (Answered.ReceivedBefore id n position at is awaited) = tt
 
-answered_awaits : (per : ℕ) (b : Broker) (z i : ℕ) (p : Packet) (q : Plan) → z < length b.senders → Answered b z p q → NotAwaited i (sender_at b z).pending
-    → NotAwaited i (sender_at (done per b q) z).pending
+answered_awaits : (per : ℕ) (b : Broker) (z i : ℕ) (p : Packet) (q : Plan) → z < length b.replicators → Answered b z p q → NotAwaited i (replicator_at b z).pending
+    → NotAwaited i (replicator_at (done per b q) z).pending
 answered_awaits per b z i p q lt a l =
-    subst (λ (v : Sender). NotAwaited i v.pending) (sym (done_sender per b z q lt))
-    (then_awaits z i (sender_after z (sender_at b z) q.writes) q.changes (answered_calm b z p q a) (after_awaits z i (sender_at b z) q.writes l))
+    subst (λ (v : Replicator). NotAwaited i v.pending) (sym (done_replicator per b z q lt))
+    (then_awaits z i (replicator_after z (replicator_at b z) q.writes) q.changes (answered_calm b z p q a) (after_awaits z i (replicator_at b z) q.writes l))
 
 -- ---- what each event plans
 
@@ -252,7 +252,7 @@ unfolding take_packet
 take_index y i h b x f None = tt
 take_index y i h b x f (Some p) = fated_index y i h.per_ledger b (λ c. Taken h c x p) (closes x) _ (λ c q a. taken_index y i h c x p q a) tt (fate_taken h b x p f)
 
-receipt_fated : (y i z : ℕ) (h : Site) (b : Broker) (p : Packet) (q : Plan) → (z ≡ y → NotAwaited i (sender_at b z).pending × (z < length b.senders))
+receipt_fated : (y i z : ℕ) (h : Site) (b : Broker) (p : Packet) (q : Plan) → (z ≡ y → NotAwaited i (replicator_at b z).pending × (z < length b.replicators))
     → Fated h.per_ledger b (λ c. Answered c z p) (quiet_plan []) q → LeaveIndex y i q.writes
 receipt_fated y i z h b p q l (Fated.Once r a) = answered_index y i z b p r a (λ is. (l is).0)
 receipt_fated y i z h b p q l Fated.Lost = tt
@@ -260,7 +260,7 @@ receipt_fated y i z h b p q l (Fated.Twice r r' a a') =
     each_both (LeavesIndex y i) r.writes r'.writes (answered_index y i z b p r a (λ is. (l is).0))
     (answered_index y i z (done h.per_ledger b r) p r' a' (λ is. answered_awaits h.per_ledger b z i p r (l is).1 a (l is).0))
 
-pub receipt_index : (y i z : ℕ) (h : Site) (b : Broker) (f : Fate) (o : Option Packet) → (z ≡ y → NotAwaited i (sender_at b z).pending × (z < length b.senders))
+pub receipt_index : (y i z : ℕ) (h : Site) (b : Broker) (f : Fate) (o : Option Packet) → (z ≡ y → NotAwaited i (replicator_at b z).pending × (z < length b.replicators))
     → LeaveIndex y i (receipt h b z f o).writes
 unfolding receipt
 receipt_index y i z h b f None l = tt

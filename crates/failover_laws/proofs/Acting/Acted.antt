@@ -6,7 +6,7 @@ use Rattle.world_laws.proofs.Types.{ClusterPosition, Entry, Event}
 use Rattle.world_laws.proofs.Types.content
 use Rattle.world_laws.proofs.Types.event
 use Rattle.world_laws.proofs.Types.marker
-use Rattle.geo_base.specs.Broker.{Broker, Site, sender_at, sub_named}
+use Rattle.geo_base.specs.Broker.{Broker, Site, replicator_at, sub_named}
 use Rattle.geo_base.specs.Cursor.{has}
 use Rattle.geo_base.specs.Happening.{halts_planned, happens, stops}
 use Rattle.geo_base.specs.Laws.{ArePair, IsShort, MarkerAt}
@@ -24,7 +24,7 @@ use Rattle.world_laws.proofs.OnceInOrder.Members.{below_or}
 use Rattle.world_laws.proofs.Replicating.Pairs.{Replicates}
 use Rattle.world_laws.proofs.Replicating.Sizes.{node_there}
 use Rattle.world_laws.proofs.Walks.Walk.{both, by_test}
-use Rattle.failover_laws.specs.PassedOver.{HasPassed, MayPass, writes_to_pass}
+use Rattle.failover_laws.specs.UpdatedTo.{HasUpdatedTo, MayUpdateTo, writes_to_update}
 use Rattle.failover_laws.specs.Since.{Since, StaysAcknowledged}
 use Rattle.failover_laws.specs.Switched.{ActsBefore, HasActed, HasRoomFrom, IsUnread, LawActs, LeftFrom}
 use Rattle.failover_laws.proofs.Acting.Acking.{LeaveIndex}
@@ -37,13 +37,13 @@ use Rattle.failover_laws.proofs.Lasting.{index_stays, since_keeps, still_passed}
 use Rattle.failover_laws.proofs.Passed.{acting, halted_passes, planned_is, read_passes}
 
 -- before the cursor is written nothing is acknowledged
-too_few : (h : Site) (b : Broker) (a i k l : ℕ) (n : List ℕ) (j : ℕ) (o : Option Subscription) → k < writes_to_pass o → LeaveIndex a i (take k (acting h b a l n j o).writes)
+too_few : (h : Site) (b : Broker) (a i k l : ℕ) (n : List ℕ) (j : ℕ) (o : Option Subscription) → k < writes_to_update o → LeaveIndex a i (take k (acting h b a l n j o).writes)
 too_few h b a i zero l n j o lt = tt
 too_few h b a i (suc k) l n j (Some v) lt = absurd (omega (arith, lt))
 too_few h b a i (suc zero) l n j None lt = (tt, tt)
 too_few h b a i (suc (suc k)) l n j None lt = absurd (omega (arith, lt))
 
--- what is fixed: an update e of a for n, of topic t, that y's sender to a has not acknowledged in v
+-- what is fixed: an update e of a for n, of topic t, that y's replicator to a has not acknowledged in v
 pub record IsWatched (s : Setup) (v : World) (t y a : ℕ) (n : List ℕ) (told : List ClusterPosition) (e : Entry) : Type 0 where
   pub scripted : IsScripted s
   pub reached : ReachedFrom s (opening_world s) v
@@ -65,7 +65,7 @@ known_here : (s : Setup) (v w : World) (t y a i : ℕ) (n : List ℕ) (told : Li
 known_here s v w t y a i n told e q r short at =
     let all = reached_then s (opening_world s) v w q.reached r in
     let replicates : Replicates s w = (tracing_at s q.scripted w all).0.0.0.0.0.0.0 in
-    let wide = (replicates.sized.wide t y (q.topic, q.pair.0)).senders in let small = q.pair.1 in
+    let wide = (replicates.sized.wide t y (q.topic, q.pair.0)).replicators in let small = q.pair.1 in
     record {
       standing = known_at s q.scripted w all short;
       replicates = replicates;
@@ -78,7 +78,7 @@ known_here s v w t y a i n told e q r short at =
 
 -- where it is read next it has an effect
 may_pass : (s : Setup) (v w : World) (t y a i : ℕ) (n : List ℕ) (told : List ClusterPosition) (e : Entry) → IsWatched s v t y a n told e → LeftFrom s t y n v w → Standing s w
-    → NextIs s w t y a i → IsEntry (topic_at s w t y) i e → (j : ℕ) × MayPass s w t y a n told j
+    → NextIs s w t y a i → IsEntry (topic_at s w t y) i e → (j : ℕ) × MayUpdateTo s w t y a n told j
 may_pass s v w t y a i n told e q r h next at =
     let m : MarkerAt (topic_at s w t y) i a (marker.Update n told) = record { entry = e; stands = at; origin = q.origin; is = q.is } in
     let one = names_stored s w t y a y i n told h q.topic (flip s y a q.pair) q.pair.0 m in (
@@ -101,16 +101,16 @@ still_acted s w w' t y a n told stays h = record {
 }
 
 now_acted : (s : Setup) (w w' : World) (t y a j : ℕ) (n : List ℕ) (told : List ClusterPosition) → StaysAcknowledged n (topic_at s w t y) (topic_at s w' t y)
-    → MayPass s w t y a n told j → HasPassed (topic_at s w' t y) n a j → HasActed s w' t y a n told
+    → MayUpdateTo s w t y a n told j → HasUpdatedTo (topic_at s w' t y) n a j → HasActed s w' t y a n told
 now_acted s w w' t y a j n told stays m passed =
     record { index = j; names = index_stays n (topic_at s w t y) (topic_at s w' t y) (positions_for y told) j stays m.names; passed = passed }
 
 -- a world after one more thing that happens
 record OneMore (s : Setup) (w w' : World) (t y a : ℕ) (n : List ℕ) (told : List ClusterPosition) (e : Entry) : Type 0 where
   stays : StaysAcknowledged n (topic_at s w t y) (topic_at s w' t y)
-  does : (i : ℕ) → IsEntry (topic_at s w' t y) i e → has (sender_at (topic_at s w' t y) a).cursor i ≡ true
+  does : (i : ℕ) → IsEntry (topic_at s w' t y) i e → has (replicator_at (topic_at s w' t y) a).cursor i ≡ true
       → (i < length (topic_at s w t y).entries → IsEntry (topic_at s w t y) i e)
-      → (has (sender_at (topic_at s w t y) a).cursor i ≡ true) ⊎ HasActed s w' t y a n told
+      → (has (replicator_at (topic_at s w t y) a).cursor i ≡ true) ⊎ HasActed s w' t y a n told
 
 still_acts : (s : Setup) (w w' : World) (t y a : ℕ) (n : List ℕ) (told : List ClusterPosition) (e : Entry) → t < length s.topics → ArePair s y a → Replicates s w
     → OneMore s w w' t y a n told e → ActsBefore s w t y a n told e → ActsBefore s w' t y a n told e
@@ -127,8 +127,8 @@ event_step s v w t y a n told e d q r short stays = record { stays = stays; does
   where
     Out : ℕ → Event → Type 0
     Out i d =
-        StaysAcknowledged n (topic_at s w t y) (topic_at s (happens s w d) t y) → has (sender_at (topic_at s (happens s w d) t y) a).cursor i ≡ true
-        → (has (sender_at (topic_at s w t y) a).cursor i ≡ true) ⊎ HasActed s (happens s w d) t y a n told
+        StaysAcknowledged n (topic_at s w t y) (topic_at s (happens s w d) t y) → has (replicator_at (topic_at s (happens s w d) t y) a).cursor i ≡ true
+        → (has (replicator_at (topic_at s w t y) a).cursor i ≡ true) ⊎ HasActed s (happens s w d) t y a n told
 
     go : (i : ℕ) (d : Event) → Here s w t y a i e → (i < length (topic_at s w t y).entries → IsEntry (topic_at s w t y) i e) → Acks s w t y a i d → Out i d
     go i d h old (Acks.Leaves d' l) stays acked = inl (event_left s w t y a i d h.awaits.size l acked)
@@ -136,8 +136,8 @@ event_step s v w t y a n told e d q r short stays = record { stays = stays; does
         let m = may_pass s v w t y a i n told e q r h.standing next (old (next_within _ _ _ i next)) in
         inr (now_acted s w (happens s w (event.Read t y a)) t y a m.0 n told stays m.1 (read_passes s w t y a n told m.0 m.1))
 
-    by : (i : ℕ) → has (sender_at (topic_at s (happens s w d) t y) a).cursor i ≡ true → (i < length (topic_at s w t y).entries → IsEntry (topic_at s w t y) i e) → Here s w t y a i e
-        → (has (sender_at (topic_at s w t y) a).cursor i ≡ true) ⊎ HasActed s (happens s w d) t y a n told
+    by : (i : ℕ) → has (replicator_at (topic_at s (happens s w d) t y) a).cursor i ≡ true → (i < length (topic_at s w t y).entries → IsEntry (topic_at s w t y) i e) → Here s w t y a i e
+        → (has (replicator_at (topic_at s w t y) a).cursor i ≡ true) ⊎ HasActed s (happens s w d) t y a n told
     by i acked old h = go i d h old (event_acks s w t y a i h.awaits d) stays acked
 
 halt_step : (s : Setup) (v w : World) (t y a k : ℕ) (n : List ℕ) (told : List ClusterPosition) (e : Entry) (d : Event) → IsWatched s v t y a n told e → LeftFrom s t y n v w → IsShort w
@@ -149,14 +149,14 @@ halt_step s v w t y a k n told e d q r short stays = record { stays = stays; doe
 
     Out : ℕ → Event → Type 0
     Out i d =
-        StaysAcknowledged n (topic_at s w t y) (topic_at s (End d) t y) → has (sender_at (topic_at s (End d) t y) a).cursor i ≡ true
-        → (has (sender_at (topic_at s w t y) a).cursor i ≡ true) ⊎ HasActed s (End d) t y a n told
+        StaysAcknowledged n (topic_at s w t y) (topic_at s (End d) t y) → has (replicator_at (topic_at s (End d) t y) a).cursor i ≡ true
+        → (has (replicator_at (topic_at s w t y) a).cursor i ≡ true) ⊎ HasActed s (End d) t y a n told
 
     go : (i : ℕ) (d : Event) → Here s w t y a i e → (i < length (topic_at s w t y).entries → IsEntry (topic_at s w t y) i e) → Acks s w t y a i d → Out i d
     go i d h old (Acks.Leaves d' l) stays acked = inl (halts_left s w t y a i k (planned s w d) h.awaits.size (part_left k s t y a i (planned s w d) l) acked)
     go i _ h old (Acks.ReadsIt next) stays acked =
         let m = may_pass s v w t y a i n told e q r h.standing next (old (next_within _ _ _ i next)) in
-        elim (below_or k (writes_to_pass (sub_named (topic_at s w t y).subs n))) [
+        elim (below_or k (writes_to_update (sub_named (topic_at s w t y).subs n))) [
           | inl few ↦
               inl (halts_left s w t y a i k (planned s w (event.Read t y a)) h.awaits.size
               (subst (λ (o : Option Planned). PartLeft k s t y a i o) (sym (planned_is s w t y a n told m.0 m.1))
@@ -164,8 +164,8 @@ halt_step s v w t y a k n told e d q r short stays = record { stays = stays; doe
           | inr enough ↦ inr (now_acted s w (End (event.Read t y a)) t y a m.0 n told stays m.1 (halted_passes s w t y a n told m.0 k m.1 enough))
         ]
 
-    by : (i : ℕ) → has (sender_at (topic_at s (End d) t y) a).cursor i ≡ true → (i < length (topic_at s w t y).entries → IsEntry (topic_at s w t y) i e) → Here s w t y a i e
-        → (has (sender_at (topic_at s w t y) a).cursor i ≡ true) ⊎ HasActed s (End d) t y a n told
+    by : (i : ℕ) → has (replicator_at (topic_at s (End d) t y) a).cursor i ≡ true → (i < length (topic_at s w t y).entries → IsEntry (topic_at s w t y) i e) → Here s w t y a i e
+        → (has (replicator_at (topic_at s w t y) a).cursor i ≡ true) ⊎ HasActed s (End d) t y a n told
     by i acked old h = go i d h old (event_acks s w t y a i h.awaits d) stays acked
 
 stop_step : (s : Setup) (v w : World) (t y a : ℕ) (n : List ℕ) (told : List ClusterPosition) (e : Entry) → IsWatched s v t y a n told e → LeftFrom s t y n v w → IsShort w

@@ -3,15 +3,15 @@ use Rattle.std.proofs.Common.{◌≡◌, ◌-◌, ◌<◌, true, List, ◌∷◌
 use Rattle.std.specs.Prelude.{Some, None, slice_index_or}
 use Rattle.std.proofs.lemmas.Bool.{eq-eqb}
 use Rattle.std.proofs.lemmas.Option.{none-some}
-use Rattle.world_laws.proofs.Types.{ClusterPosition, Position, SenderState}
+use Rattle.world_laws.proofs.Types.{ClusterPosition, Position, ReplicatorState}
 use Rattle.world_laws.proofs.Types.marker
-use Rattle.world_laws.proofs.Types.sender_state
-use Rattle.geo_base.specs.Builder.{named}
+use Rattle.world_laws.proofs.Types.replicator_state
+use Rattle.geo_base.specs.SnapshotBuilder.{named}
 use Rattle.geo_base.specs.Cache.{cut_of}
 use Rattle.geo_base.specs.Cuts.{CoversCluster, IsCut}
 use Rattle.geo_base.specs.Laws.{ArePair, MarkerAt}
 use Rattle.geo_base.specs.Name.{is_name}
-use Rattle.geo_base.specs.Sender.{Sender, index_to_read}
+use Rattle.geo_base.specs.Replicator.{Replicator, index_to_read}
 use Rattle.geo_base.specs.Setup.{Setup}
 use Rattle.geo_base.specs.Topic.{index_of}
 use Rattle.geo_base.specs.Updating.{only_index, positions_for}
@@ -67,7 +67,7 @@ names_stored s w t y a z k n told h lt pair small m = record {
     one : positions_for y told ≡ each.0 ∷ []
     one = ap (positions_for y) (u.same ∙ ap named c.same) ∙ names_one y (cut_of a (length s.clusters) c.local c.remote).remote each.0 each.1
 
-pub next_within : (state : SenderState) (v : Sender) (n i : ℕ) → index_to_read state v n ≡ Some i → i < n
-next_within sender_state.Open v n i next = let h = next_is v.cursor v.read_index (n - v.read_index) i next in let low = h.low in let high = h.high in omega (arith, low, high)
-next_within sender_state.Opening v n i next = absurd (none-some i next)
-next_within sender_state.Closed v n i next = absurd (none-some i next)
+pub next_within : (state : ReplicatorState) (v : Replicator) (n i : ℕ) → index_to_read state v n ≡ Some i → i < n
+next_within replicator_state.Open v n i next = let h = next_is v.cursor v.read_index (n - v.read_index) i next in let low = h.low in let high = h.high in omega (arith, low, high)
+next_within replicator_state.Opening v n i next = absurd (none-some i next)
+next_within replicator_state.Closed v n i next = absurd (none-some i next)

@@ -6,7 +6,7 @@ use Rattle.std.proofs.lemmas.Bool.{eq-eqb, false≢true, ltb-true}
 use Rattle.std.proofs.lemmas.Option.{same_Some, slice_get_within}
 use Rattle.world_laws.proofs.Types.{Entry, Position, Step}
 use Rattle.world_laws.proofs.Types.step
-use Rattle.geo_base.specs.Broker.{sender_at, sub_named}
+use Rattle.geo_base.specs.Broker.{replicator_at, sub_named}
 use Rattle.geo_base.specs.Cursor.{has}
 use Rattle.geo_base.specs.Entry.{goes_to, is_data, is_outbound, meant_for}
 use Rattle.geo_base.specs.Laws.{IsShort, SettlesAll, after_settling, begun, of_origin, outbound}
@@ -134,9 +134,9 @@ switched s scripted before after t y a k n told pair short asked m goes since le
         arrived_at a y (topic_at s z t a).entries (topic_at s z t y).entries k m.entry
         (subst (λ (u : World). outbound a y (topic_at s u t a).entries ≡ of_origin a (topic_at s u t y).entries) (sym settled_z) (all_over t a y topic pair).arrived) stands_z out
 
-    acked : has (sender_at (topic_at s z t y) a).cursor there.place ≡ true
+    acked : has (replicator_at (topic_at s z t y) a).cursor there.place ≡ true
     acked =
-        subst (λ (u : World). there.place < length (topic_at s u t y).entries → has (sender_at (topic_at s u t y) a).cursor there.place ≡ true) (sym settled_z)
+        subst (λ (u : World). there.place < length (topic_at s u t y).entries → has (replicator_at (topic_at s u t y) a).cursor there.place ≡ true) (sym settled_z)
         ((all_over t y a topic (flip s a y pair)).acknowledged there.place) (slice_get_within (topic_at s z t y).entries there.place m.entry there.is)
 
     acted : HasActed s z t y a n told

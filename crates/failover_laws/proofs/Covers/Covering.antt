@@ -5,7 +5,7 @@ use Rattle.std.proofs.lemmas.Bool.{eq-eqb, false≢true, ltb-true}
 use Rattle.std.proofs.lemmas.Option.{same_Some, slice_get_within}
 use Rattle.world_laws.proofs.Types.{ClusterPosition, Entry, Position, Targets}
 use Rattle.world_laws.proofs.Types.marker
-use Rattle.world_laws.proofs.Types.place
+use Rattle.world_laws.proofs.Types.cluster_ref
 use Rattle.geo_base.specs.Broker.{Broker}
 use Rattle.geo_base.specs.Cache.{cut_of}
 use Rattle.geo_base.specs.Cuts.{CoversCluster, IsCut}
@@ -37,7 +37,7 @@ use Rattle.failover_laws.proofs.Lasting.{since_keeps, still_passed}
 
 -- a request of a that stands above all that stood at a in v stands above all that stood at y in v, too
 asked_since : (s : Setup) (v w : World) → Knows s v → Standing s w → Grown s v w → (t a y r i : ℕ) (id : List ℕ) → t < length s.topics → ArePair s a y
-    → MarkerAt (topic_at s w t a) r a (marker.Request id (place.Known a)) → RequestAt a (topic_at s w t y).entries i id → length (topic_at s v t a).entries ≤ r
+    → MarkerAt (topic_at s w t a) r a (marker.Request id (cluster_ref.Known a)) → RequestAt a (topic_at s w t y).entries i id → length (topic_at s v t a).entries ≤ r
     → length (topic_at s v t y).entries ≤ i
 asked_since s v w kv h grown t a y r i id lt pair request asked since =
     elim (below_or i (length then_y.entries)) [

@@ -4,13 +4,13 @@ use Rattle.std.proofs.Common.{◌≡◌, ℕ, zero, suc, ◌+◌, Bool, true, fa
 use Rattle.std.specs.Prelude.{Option, Some, None, ◌||◌, nat_lt, slice_get}
 use Rattle.std.proofs.lemmas.Bool.{eqb-true}
 use Rattle.std.proofs.lemmas.Option.{none-some, same_Some}
-use Rattle.world_laws.proofs.Types.{Builder, ClusterPosition, Content, Entry, Packet, Position, Progress}
+use Rattle.world_laws.proofs.Types.{SnapshotBuilder, ClusterPosition, Content, Entry, Packet, Position, Progress}
 use Rattle.world_laws.proofs.Types.content
 use Rattle.world_laws.proofs.Types.fate
 use Rattle.world_laws.proofs.Types.marker
 use Rattle.world_laws.proofs.Types.progress
 use Rattle.geo_base.specs.Broker.{Broker, Site}
-use Rattle.geo_base.specs.Builder.{Heard, counts, named, on_response, with_response}
+use Rattle.geo_base.specs.SnapshotBuilder.{Heard, counts, named, on_response, with_response}
 use Rattle.geo_base.specs.Entry.{with_origin}
 use Rattle.geo_base.specs.Forwarding.{is_remote, receipt, reset, take_packet}
 use Rattle.geo_base.specs.Markers.{snapshot_marker}
@@ -31,8 +31,8 @@ is_of_snapshot c = false
 -- what becomes of the snapshot in the making
 pub data Makes (h : Site) (b : Broker) (p : Plan) : Type 0 where
   Leaves : ((per : ℕ) → (done per b p).builder ≡ b.builder) → Makes h b p
-  GoesOn : (u u' : Builder) → b.builder ≡ Some u → u'.id ≡ u.id → ((per : ℕ) → (done per b p).builder ≡ Some u') → Makes h b p
-  Stores : (y i : ℕ) (e : Entry) (id : List ℕ) (answer : ClusterPosition) (u u' : Builder) → b.builder ≡ Some u → u'.id ≡ u.id → ReadsNext h b y i e → IsResponse h b y e id answer u
+  GoesOn : (u u' : SnapshotBuilder) → b.builder ≡ Some u → u'.id ≡ u.id → ((per : ℕ) → (done per b p).builder ≡ Some u') → Makes h b p
+  Stores : (y i : ℕ) (e : Entry) (id : List ℕ) (answer : ClusterPosition) (u u' : SnapshotBuilder) → b.builder ≡ Some u → u'.id ≡ u.id → ReadsNext h b y i e → IsResponse h b y e id answer u
       → Hears b y i id answer u progress.Done u' → appended p.writes ≡ snapshot_marker h b u' ∷ [] → Makes h b p
 
 pub record IsCalm (h : Site) (b : Broker) (p : Plan) : Type 0 where
@@ -48,14 +48,14 @@ one_new own m is zero e at of = subst (λ (x : Entry). is_of_snapshot x.content 
 one_new own m is (suc j) e at of = absurd (none-some e at)
 
 -- an answer leaves the id of a builder
-id_stays : (u : Builder) (id : List ℕ) (y : ℕ) (remote local : Position) → (on_response u id y remote local).builder.id ≡ u.id
+id_stays : (u : SnapshotBuilder) (id : List ℕ) (y : ℕ) (remote local : Position) → (on_response u id y remote local).builder.id ≡ u.id
 id_stays u id y remote local =
     on_if (λ (r : Heard). r.builder.id ≡ u.id) (counts u id y) _ _
     (let v = with_response u y remote local in
     on_if (λ (r : Heard). r.builder.id ≡ u.id) (nat_lt (length v.heard + 1) v.clusters) _ _ refl
     (on_if (λ (r : Heard). r.builder.id ≡ u.id) (v.second || (v.clusters == 2)) _ _ refl refl)) refl
 
-id_after : (b : Broker) (y i : ℕ) (id : List ℕ) (answer : ClusterPosition) (u u' : Builder) (g : Progress) → Hears b y i id answer u g u' → u'.id ≡ u.id
+id_after : (b : Broker) (y i : ℕ) (id : List ℕ) (answer : ClusterPosition) (u u' : SnapshotBuilder) (g : Progress) → Hears b y i id answer u g u' → u'.id ≡ u.id
 id_after b y i id answer u u' g heard = subst (λ (r : Heard). r.builder.id ≡ u.id) heard (id_stays u id y answer.position (position_at b.ledgers i))
 
 -- ---- plans
@@ -113,4 +113,4 @@ reads_calm h b y q never (Reads.AsksAgain i e id answer u u' next is heard) =
 reads_calm h b y q never (Reads.Completes i e id answer u u' next is heard) =
     record { own = one_new h.own _ refl; subs = λ per. refl; makes = Makes.Stores y i e id answer u u' is.2 (id_after b y i id answer u u' progress.Done heard) next is heard refl }
 reads_calm h b y q never (Reads.CreatesAt i j e n remote next is named) = absurd (never i j e n remote next is)
-reads_calm h b y q never (Reads.PassesOver i j e n remote v ws next is named after) = absurd (never i j e n remote next is)
+reads_calm h b y q never (Reads.ActsOnUpdate i j e n remote v ws next is named after) = absurd (never i j e n remote next is)

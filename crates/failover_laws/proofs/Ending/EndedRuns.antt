@@ -5,13 +5,13 @@ use Rattle.std.proofs.lemmas.Bool.{eq-eqb, false≢true, ltb-true}
 use Rattle.std.proofs.lemmas.List.{get_or-replicate}
 use Rattle.std.proofs.lemmas.Nat.{div-mul-add, pow_pos}
 use Rattle.std.proofs.lemmas.Option.{none-some, slice_get_within}
-use Rattle.world_laws.proofs.Types.{Builder, Event, Place, Targets}
+use Rattle.world_laws.proofs.Types.{SnapshotBuilder, Event, ClusterRef, Targets}
 use Rattle.world_laws.proofs.Types.step
 use Rattle.world_laws.proofs.Types.targets
 use Rattle.geo_base.specs.Broker.{new_broker, no_broker}
-use Rattle.geo_base.specs.Builder.{current_id}
+use Rattle.geo_base.specs.SnapshotBuilder.{current_id}
 use Rattle.geo_base.specs.Cursor.{has}
-use Rattle.geo_base.specs.Entry.{goes_to, is_outbound, is_place}
+use Rattle.geo_base.specs.Entry.{goes_to, is_outbound, means_cluster}
 use Rattle.geo_base.specs.Happening.{halts_planned, happens, stops}
 use Rattle.geo_base.specs.Laws.{ArePair, BetweenEvents, IsComplete, IsShort, SettlesAll, after_settling, begun}
 use Rattle.geo_base.specs.Plan.{done}
@@ -49,8 +49,8 @@ Pursuit s w = Tracing s w × (IsShort w → AllPursue s w)
 facts : (s : Setup) (w : World) (t x : ℕ) → Tracing s w → IsShort w → IsThere s t x → Facts s w t x
 facts s w t x h short there = record { there = there; knows = knows_now s w h.0.0 short; replicates = h.0.0.0.0.0.0.0; none = h.0.0.0.0.0.0.1 }
 
-size : (s : Setup) (w : World) (t x y : ℕ) → Tracing s w → IsThere s t x → y < length s.clusters → y < length (topic_at s w t x).senders
-size s w t x y h there lt = let wide = (h.0.0.0.0.0.0.0.sized.wide t x there).senders in omega (arith, wide, lt)
+size : (s : Setup) (w : World) (t x y : ℕ) → Tracing s w → IsThere s t x → y < length s.clusters → y < length (topic_at s w t x).replicators
+size s w t x y h there lt = let wide = (h.0.0.0.0.0.0.0.sized.wide t x there).replicators in omega (arith, wide, lt)
 
 opening_pursues : (s : Setup) → AllPursue s (opening_world s)
 opening_pursues s t x there =
@@ -132,7 +132,7 @@ none_making s z p short complete t x lt small = by (topic_at s z t x).builder re
     mine : Pursues x (topic_at s z t x)
     mine = p.1 short t x there
 
-    heard : (u : Builder) → (topic_at s z t x).builder ≡ Some u → (c : ℕ) → c < length s.clusters → (x ≡ c → ⊥) → has u.heard c ≡ true
+    heard : (u : SnapshotBuilder) → (topic_at s z t x).builder ≡ Some u → (c : ℕ) → c < length s.clusters → (x ≡ c → ⊥) → has u.heard c ≡ true
     heard u making c small_c other =
         let id = current_id u in
         let pair : ArePair s x c = (small, small_c, other) in
@@ -148,17 +148,17 @@ none_making s z p short complete t x lt small = by (topic_at s z t x).builder re
         let out' : is_outbound c x a.entry ≡ true = both (a.entry.ident.origin == c) (goes_to x a.entry.to) a.at.of (subst (λ (to : Targets). goes_to x to ≡ true) (sym a.to) (goes_there x)) in
         let back_here : Stands xs a.entry = arrived_at c x cs xs a.index a.entry (complete t c x lt back).arrived a.at.at out' in
         let read' = (complete t x c lt pair).acknowledged back_here.place (slice_get_within xs back_here.place a.entry back_here.is) in
-        let named : is_place c a.answer.cluster ≡ true = subst (λ (q : Place). is_place c q ≡ true) (sym (theirs.names a.index id a.answer a.entry a.at)) (eq-eqb c c refl) in
+        let named : means_cluster c a.answer.cluster ≡ true = subst (λ (q : ClusterRef). means_cluster c q ≡ true) (sym (theirs.names a.index id a.answer a.entry a.at)) (eq-eqb c c refl) in
         mine.heard u c back_here.place a.answer a.entry making other (record { at = back_here.is; of = a.at.of; is = a.at.is }) named read'
 
-    each : (u : Builder) → (topic_at s z t x).builder ≡ Some u → (c : ℕ) → c < length s.clusters → has (x ∷ u.heard) c ≡ true
+    each : (u : SnapshotBuilder) → (topic_at s z t x).builder ≡ Some u → (c : ℕ) → c < length s.clusters → has (x ∷ u.heard) c ≡ true
     each u making c small_c = here (x == c) refl
       where
         here : (b : Bool) → (x == c) ≡ b → (b || has u.heard c) ≡ true
         here true e = refl
         here false e = heard u making c small_c (λ is. false≢true (sym e ∙ eq-eqb x c is))
 
-    by : (o : Option Builder) → (topic_at s z t x).builder ≡ o → o ≡ None
+    by : (o : Option SnapshotBuilder) → (topic_at s z t x).builder ≡ o → o ≡ None
     by None making = refl
     by (Some u) making =
         let made = ((knows_now s z p.0.0.0 short).asked t x there).made u making in

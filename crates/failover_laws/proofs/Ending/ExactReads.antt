@@ -4,7 +4,7 @@ use Rattle.std.specs.Prelude.{Option, Some, None, ◌&&◌, nat_lt, slice_get}
 use Rattle.std.proofs.lemmas.Bool.{eqb-true, lt-ltb}
 use Rattle.world_laws.proofs.Types.{Entry}
 use Rattle.world_laws.proofs.Types.event
-use Rattle.geo_base.specs.Broker.{Broker, Site, sender_at}
+use Rattle.geo_base.specs.Broker.{Broker, Site, replicator_at}
 use Rattle.geo_base.specs.Entry.{goes_to}
 use Rattle.geo_base.specs.Forwarding.{is_remote}
 use Rattle.geo_base.specs.Laws.{ArePair}
@@ -12,7 +12,7 @@ use Rattle.geo_base.specs.Markers.{read_content}
 use Rattle.geo_base.specs.Plan.{Plan, idle_plan}
 use Rattle.geo_base.specs.Planned.{Planned, in_range, planned, planned_in}
 use Rattle.geo_base.specs.Reading.{forwards, read, read_at, read_entry}
-use Rattle.geo_base.specs.Sender.{index_to_read}
+use Rattle.geo_base.specs.Replicator.{index_to_read}
 use Rattle.geo_base.specs.Setup.{Setup}
 use Rattle.geo_base.specs.World.{LinkName, World, site, topic_at}
 use Rattle.world_laws.proofs.Replicating.Prefixes.{is_of}
@@ -28,12 +28,12 @@ not_mine y own origin goes other of = by (origin == own) refl
     by false e = refl
 
 exact_read : (h : Site) (b : Broker) (y i : ℕ) (e : Entry) → is_remote h y ≡ true → (y ≡ h.own → ⊥)
-    → index_to_read (sender_at b y).state (sender_at b y) (length b.entries) ≡ Some i → slice_get b.entries i ≡ Some e → is_of y e ≡ true
+    → index_to_read (replicator_at b y).state (replicator_at b y) (length b.entries) ≡ Some i → slice_get b.entries i ≡ Some e → is_of y e ≡ true
     → read h b y ≡ read_content h b y i e.content
 unfolding read
 exact_read h b y i e far other next at of =
-    on_true (is_remote h y) (read_at h b y (index_to_read (sender_at b y).state (sender_at b y) (length b.entries))) _ far ∙ ap (read_at h b y) next ∙ ap (read_entry h b y i) at
-    ∙ on_false ((e.ident.origin == h.own) && goes_to y e.to) (forwards h y (sender_at b y) i e) _ (not_mine y h.own e.ident.origin (goes_to y e.to) other of)
+    on_true (is_remote h y) (read_at h b y (index_to_read (replicator_at b y).state (replicator_at b y) (length b.entries))) _ far ∙ ap (read_at h b y) next ∙ ap (read_entry h b y i) at
+    ∙ on_false ((e.ident.origin == h.own) && goes_to y e.to) (forwards h y (replicator_at b y) i e) _ (not_mine y h.own e.ident.origin (goes_to y e.to) other of)
     ∙ on_true (e.ident.origin == y) (read_content h b y i e.content) _ of
 
 far_from : (s : Setup) (t x y : ℕ) → ArePair s x y → is_remote (site s t x) y ≡ true

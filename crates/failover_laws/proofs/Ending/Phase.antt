@@ -3,19 +3,19 @@ use Rattle.std.proofs.Common.{◌≡◌, zero, suc, ◌+◌, ◌<◌, ◌≤◌,
 use Rattle.std.specs.Prelude.{Option, Some, None, ◌-◌, ◌&&◌, nat_lt, if◌then◌else◌, slice_get}
 use Rattle.std.proofs.lemmas.Bool.{eq-eqb, false≢true, ltb-true}
 use Rattle.std.proofs.lemmas.Option.{none-some, same_Some, slice_get_within}
-use Rattle.world_laws.proofs.Types.{Builder, ClusterPosition, Entry, Event, Position, SenderState}
+use Rattle.world_laws.proofs.Types.{SnapshotBuilder, ClusterPosition, Entry, Event, Position, ReplicatorState}
 use Rattle.world_laws.proofs.Types.content
 use Rattle.world_laws.proofs.Types.event
 use Rattle.world_laws.proofs.Types.fate
 use Rattle.world_laws.proofs.Types.marker
-use Rattle.world_laws.proofs.Types.sender_state
-use Rattle.geo_base.specs.Broker.{Broker, sender_at}
+use Rattle.world_laws.proofs.Types.replicator_state
+use Rattle.geo_base.specs.Broker.{Broker, replicator_at}
 use Rattle.geo_base.specs.Cursor.{has, next_open}
 use Rattle.geo_base.specs.Laws.{ArePair, IsComplete}
 use Rattle.geo_base.specs.Plan.{Plan}
 use Rattle.geo_base.specs.Planned.{Planned, has_node, has_pair, in_range, planned, planned_in}
 use Rattle.geo_base.specs.Scripted.{IsScripted}
-use Rattle.geo_base.specs.Sender.{index_to_read}
+use Rattle.geo_base.specs.Replicator.{index_to_read}
 use Rattle.geo_base.specs.Setup.{Setup}
 use Rattle.geo_base.specs.Topic.{index_of}
 use Rattle.geo_base.specs.World.{LinkName, World, node, opening_world, site, topic_at}
@@ -63,7 +63,7 @@ pub record IsStored (s : Setup) (v w : World) (t x : ℕ) (id : List ℕ) : Type
   pub low : at < index
 
 pub data IsMaking (s : Setup) (v w : World) (t x : ℕ) (id : List ℕ) : Type 0 where
-  Still : (u : Builder) → (topic_at s w t x).builder ≡ Some u → u.id ≡ id → IsMaking s v w t x id
+  Still : (u : SnapshotBuilder) → (topic_at s w t x).builder ≡ Some u → u.id ≡ id → IsMaking s v w t x id
   Stood : IsStored s v w t x id → IsMaking s v w t x id
 
 pub record InPhase (s : Setup) (v : World) (t x : ℕ) (id : List ℕ) (w : World) : Type 0 where
@@ -71,7 +71,7 @@ pub record InPhase (s : Setup) (v : World) (t x : ℕ) (id : List ℕ) (w : Worl
   pub own : (a i : ℕ) (e : Entry) → a < length s.clusters → slice_get (topic_at s w t a).entries i ≡ Some e → is_of a e ≡ true
       → length (topic_at s v t a).entries ≤ i → is_of_snapshot e.content ≡ true
   pub subs : (a : ℕ) → a < length s.clusters → (topic_at s w t a).subs ≡ (topic_at s v t a).subs
-  pub acked : (a z i : ℕ) → a < length s.clusters → z < length s.clusters → has (sender_at (topic_at s v t a) z).cursor i ≡ true → has (sender_at (topic_at s w t a) z).cursor i ≡ true
+  pub acked : (a z i : ℕ) → a < length s.clusters → z < length s.clusters → has (replicator_at (topic_at s v t a) z).cursor i ≡ true → has (replicator_at (topic_at s w t a) z).cursor i ≡ true
   pub made : IsMaking s v w t x id
 
 -- ---- what is read next is not acknowledged
@@ -84,18 +84,18 @@ open_next set from (suc more) i is = by (has set from) refl is (open_next set (f
     by true e is ih = ih is
     by false e is ih = subst (λ (k : ℕ). has set k ≡ false) (same_Some from i is) e
 
-next_lacks : (b : Broker) (y n i : ℕ) → index_to_read (sender_at b y).state (sender_at b y) n ≡ Some i → has (sender_at b y).cursor i ≡ false
-next_lacks b y n i is = by (sender_at b y).state is
+next_lacks : (b : Broker) (y n i : ℕ) → index_to_read (replicator_at b y).state (replicator_at b y) n ≡ Some i → has (replicator_at b y).cursor i ≡ false
+next_lacks b y n i is = by (replicator_at b y).state is
   where
-    by : (st : SenderState) → index_to_read st (sender_at b y) n ≡ Some i → has (sender_at b y).cursor i ≡ false
-    by sender_state.Open is = open_next (sender_at b y).cursor (sender_at b y).read_index (n - (sender_at b y).read_index) i is
-    by sender_state.Opening is = absurd (none-some i is)
-    by sender_state.Closed is = absurd (none-some i is)
+    by : (st : ReplicatorState) → index_to_read st (replicator_at b y) n ≡ Some i → has (replicator_at b y).cursor i ≡ false
+    by replicator_state.Open is = open_next (replicator_at b y).cursor (replicator_at b y).read_index (n - (replicator_at b y).read_index) i is
+    by replicator_state.Opening is = absurd (none-some i is)
+    by replicator_state.Closed is = absurd (none-some i is)
 
 -- no update is read: each that stands was acknowledged where all had come over
 no_update : (s : Setup) (v w : World) (t x a z i : ℕ) (id n : List ℕ) (remote : List ClusterPosition) (e : Entry) → AllOver s v t → InPhase s v t x id w → Knows s w → ArePair s a z
     → slice_get (topic_at s w t a).entries i ≡ Some e → is_of z e ≡ true → e.content ≡ content.Marked (marker.Update n remote)
-    → has (sender_at (topic_at s w t a) z).cursor i ≡ false → ⊥
+    → has (replicator_at (topic_at s w t a) z).cursor i ≡ false → ⊥
 no_update s v w t x a z i id n remote e over p knows pair at of is lacks =
     elim (below_or source.place (length then_z)) [
       | inl lt ↦ old lt
@@ -134,7 +134,7 @@ no_update s v w t x a z i id n remote e over p knows pair at of is lacks =
             | inl less ↦ not_twice now_a e (knows.once (node s t a)) (record { i = i; j = came.place; before = less; at_i = at; at_j = here })
             | inr le' ↦
                 let same : came.place ≡ i = omega (arith, le, le') in
-                false≢true (sym lacks ∙ subst (λ (k : ℕ). has (sender_at (topic_at s w t a) z).cursor k ≡ true) same now_read)
+                false≢true (sym lacks ∙ subst (λ (k : ℕ). has (replicator_at (topic_at s w t a) z).cursor k ≡ true) same now_read)
           ]
         ]
 

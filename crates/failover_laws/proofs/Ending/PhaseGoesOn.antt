@@ -5,12 +5,12 @@ use Rattle.std.proofs.lemmas.Bool.{eq-eqb}
 use Rattle.std.proofs.lemmas.Bool.Decides.{nat_tests}
 use Rattle.std.proofs.lemmas.List.{length-append}
 use Rattle.std.proofs.lemmas.Option.{same_Some}
-use Rattle.world_laws.proofs.Types.{Builder, Entry, Event}
+use Rattle.world_laws.proofs.Types.{SnapshotBuilder, Entry, Event}
 use Rattle.world_laws.proofs.Types.content
 use Rattle.world_laws.proofs.Types.marker
 use Rattle.world_laws.proofs.Types.progress
-use Rattle.geo_base.specs.Broker.{Broker, Site, cluster_name, sender_at}
-use Rattle.geo_base.specs.Builder.{named}
+use Rattle.geo_base.specs.Broker.{Broker, Site, cluster_name, replicator_at}
+use Rattle.geo_base.specs.SnapshotBuilder.{named}
 use Rattle.geo_base.specs.Cursor.{has}
 use Rattle.geo_base.specs.Happening.{happens}
 use Rattle.geo_base.specs.Laws.{IsShort}
@@ -60,7 +60,7 @@ stored_grows s v w w' t x id g h = record {
 pub record OneGoes (s : Setup) (v w : World) (t a : ℕ) (c : Broker) : Type 0 where
   pub own : (i : ℕ) (e : Entry) → slice_get c.entries i ≡ Some e → is_of a e ≡ true → length (topic_at s v t a).entries ≤ i → is_of_snapshot e.content ≡ true
   pub subs : c.subs ≡ (topic_at s v t a).subs
-  pub acked : (z i : ℕ) → z < length s.clusters → has (sender_at (topic_at s v t a) z).cursor i ≡ true → has (sender_at c z).cursor i ≡ true
+  pub acked : (z i : ℕ) → z < length s.clusters → has (replicator_at (topic_at s v t a) z).cursor i ≡ true → has (replicator_at c z).cursor i ≡ true
 
 one_goes : (s : Setup) (v w : World) (t x a : ℕ) (id : List ℕ) (e : Event) (c : Broker) → InPhase s v t x id w → Tracing s w → t < length s.topics → a < length s.clusters
     → ((k : Option LinkName) (q : Plan) → planned s w e ≡ Some (at_node t a k q) → IsCalm (site s t a) (topic_at s w t a) q) → Became s w e t a c → OneGoes s v w t a c
@@ -72,7 +72,7 @@ one_goes s v w t x a id e _ p traced lt small calm (Became.Did k q is) = record 
         | inr new ↦ (calm k q is).own (i - length b.entries) f new.1 of
       ];
   subs = (calm k q is).subs s.per_ledger ∙ p.subs a small;
-  acked = λ z i lt_z h. done_keeps_index s.per_ledger b z i q (let wide = (traced.0.0.0.0.0.0.0.sized.wide t a (lt, small)).senders in omega (arith, wide, lt_z)) (p.acked a z i small lt_z h);
+  acked = λ z i lt_z h. done_keeps_index s.per_ledger b z i q (let wide = (traced.0.0.0.0.0.0.0.sized.wide t a (lt, small)).replicators in omega (arith, wide, lt_z)) (p.acked a z i small lt_z h);
 }
   where
     b : Broker
@@ -110,7 +110,7 @@ making_goes s v w t x id e _ over p traced short small calm (Became.Did k q is) 
     same : Kept s w t x (topic_at s w' t x)
     same = subst (Kept s w t x) (sym here) (done_stays s.per_ledger b q numbered)
 
-    now : (o : Option Builder) → c.builder ≡ o → (topic_at s w' t x).builder ≡ o
+    now : (o : Option SnapshotBuilder) → c.builder ≡ o → (topic_at s w' t x).builder ≡ o
     now o is = ap (λ (z : Broker). z.builder) here ∙ is
 
     go : Makes h b q → IsMaking s v w t x id → IsMaking s v w' t x id
@@ -118,10 +118,10 @@ making_goes s v w t x id e _ over p traced short small calm (Became.Did k q is) 
     go (Makes.Leaves leaves) (IsMaking.Still u making named_so) = IsMaking.Still u (now (Some u) (leaves s.per_ledger ∙ making)) named_so
     go (Makes.GoesOn u' u'' making' stays next) (IsMaking.Still u making named_so) =
         let it : u' ≡ u = same_Some u' u (sym making' ∙ making) in
-        IsMaking.Still u'' (now (Some u'') (next s.per_ledger)) (stays ∙ ap (λ (z : Builder). z.id) it ∙ named_so)
+        IsMaking.Still u'' (now (Some u'') (next s.per_ledger)) (stays ∙ ap (λ (z : SnapshotBuilder). z.id) it ∙ named_so)
     go (Makes.Stores y i f id' answer u' u'' making' stays next response heard only) (IsMaking.Still u making named_so) =
         let it : u' ≡ u = same_Some u' u (sym making' ∙ making) in
-        let named_it : u''.id ≡ id = stays ∙ ap (λ (z : Builder). z.id) it ∙ named_so in
+        let named_it : u''.id ≡ id = stays ∙ ap (λ (z : SnapshotBuilder). z.id) it ∙ named_so in
         let made : Made (length s.clusters) x (cluster_name h x) b.entries b.ledgers u'' =
         heard_made h b y i f id' answer u' u'' progress.Done small numbered next response heard (traced.0.0.1 short t x (over.topic, small)) in
         let ended = (heard_over b y i id' answer u' u'' heard).heard in

@@ -4,10 +4,10 @@ use Rattle.std.specs.Prelude.{Option, Some, ◌-◌, slice_get, take}
 use Rattle.std.proofs.lemmas.Bool.{eq-eqb, eqb-true}
 use Rattle.std.proofs.lemmas.Option.{none-some}
 use Rattle.world_laws.proofs.Types.{ClusterPosition, Entry, Event, Write}
-use Rattle.world_laws.proofs.Types.place
+use Rattle.world_laws.proofs.Types.cluster_ref
 use Rattle.world_laws.proofs.Types.targets
 use Rattle.world_laws.proofs.Types.write
-use Rattle.geo_base.specs.Broker.{Broker, Site, sender_at}
+use Rattle.geo_base.specs.Broker.{Broker, Site, replicator_at}
 use Rattle.geo_base.specs.Cursor.{has}
 use Rattle.geo_base.specs.Laws.{ArePair}
 use Rattle.geo_base.specs.Markers.{read_content, response_marker}
@@ -43,13 +43,13 @@ answer_part h b y q i (suc (suc m)) id lt = absurd (omega (arith, lt))
 
 pub record AfterHalt (s : Setup) (w : World) (j t x : ℕ) (e : Event) (c : Broker) : Type 0 where
   pub origins : (k : ℕ) (f : Entry) → slice_get c.entries k ≡ Some f → f.ident.origin < length s.clusters
-  pub left : (y i : ℕ) → y < length s.clusters → PartLeft j s t x y i (planned s w e) → has (sender_at c y).cursor i ≡ true → has (sender_at (topic_at s w t x) y).cursor i ≡ true
+  pub left : (y i : ℕ) → y < length s.clusters → PartLeft j s t x y i (planned s w e) → has (replicator_at c y).cursor i ≡ true → has (replicator_at (topic_at s w t x) y).cursor i ≡ true
 
 pub pursued_halt : (s : Setup) (w : World) (j t x : ℕ) (e : Event) (c : Broker) → Facts s w t x → AfterHalt s w j t x e c → Pursues x (topic_at s w t x) → Halted s w j e t x c → Pursues x c
 pursued_halt s w j t x e _ f after old Halted.Same = old
 pursued_halt s w j t x e _ f after old (Halted.Did k p is) = record {
   all = subst (λ (es : List Entry). (i : ℕ) (id : List ℕ) → (r : RequestAt x es i id) → r.entry.to ≡ targets.All) (sym whole) (all_grows h b (appended ws) adds old.all);
-  names = subst (λ (es : List Entry). (i : ℕ) (id : List ℕ) (answer : ClusterPosition) (g : Entry) → AnswerAt x es i id answer g → answer.cluster ≡ place.Known x) (sym whole)
+  names = subst (λ (es : List Entry). (i : ℕ) (id : List ℕ) (answer : ClusterPosition) (g : Entry) → AnswerAt x es i id answer g → answer.cluster ≡ cluster_ref.Known x) (sym whole)
       (names_grow h b (appended ws) adds old.names);
   answered = λ y q id other r acked.
       let pair = pair_of y q r.entry other r.at r.of in
@@ -93,17 +93,17 @@ pursued_halt s w j t x e _ f after old (Halted.Did k p is) = record {
     pair_of : (y i : ℕ) (e : Entry) → (x ≡ y → ⊥) → slice_get c.entries i ≡ Some e → is_of y e ≡ true → ArePair s x y
     pair_of y i e other at of = (f.there.1, subst (λ (z : ℕ). z < length s.clusters) (eqb-true e.ident.origin y of) (after.origins i e at), other)
 
-    within : (y i : ℕ) → ArePair s x y → has (sender_at b y).cursor i ≡ true → i < length b.entries
+    within : (y i : ℕ) → ArePair s x y → has (replicator_at b y).cursor i ≡ true → i < length b.entries
     within y i pair acked = (f.replicates.pairs t x y f.there.0 pair).carried.within i acked
 
-    from_before : (y q : ℕ) (id : List ℕ) → (x ≡ y → ⊥) → ArePair s x y → (r : RequestAt y c.entries q id) → has (sender_at b y).cursor q ≡ true → AnswersTo x c.entries y id
+    from_before : (y q : ℕ) (id : List ℕ) → (x ≡ y → ⊥) → ArePair s x y → (r : RequestAt y c.entries q id) → has (replicator_at b y).cursor q ≡ true → AnswersTo x c.entries y id
     from_before y q id other pair r was =
         answers_to_grows x y b.entries c.entries b.ledgers c.ledgers id g
         (old.answered y q id other (record { entry = r.entry; at = early q r.entry (within y q pair was) r.at; of = r.of; asks = r.asks }) was)
 
     -- a request is answered before it is acknowledged
-    answers : (y q : ℕ) (id : List ℕ) → (x ≡ y → ⊥) → ArePair s x y → (r : RequestAt y c.entries q id) → has (sender_at c y).cursor q ≡ true → (e : Event) → planned s w e ≡ Some (at_node t x k p)
-        → ((z i : ℕ) → z < length s.clusters → PartLeft j s t x z i (planned s w e) → has (sender_at c z).cursor i ≡ true → has (sender_at b z).cursor i ≡ true)
+    answers : (y q : ℕ) (id : List ℕ) → (x ≡ y → ⊥) → ArePair s x y → (r : RequestAt y c.entries q id) → has (replicator_at c y).cursor q ≡ true → (e : Event) → planned s w e ≡ Some (at_node t x k p)
+        → ((z i : ℕ) → z < length s.clusters → PartLeft j s t x z i (planned s w e) → has (replicator_at c z).cursor i ≡ true → has (replicator_at b z).cursor i ≡ true)
         → Acks s w t x y q e → AnswersTo x c.entries y id
     answers y q id other pair r acked e is lefts (Acks.Leaves e' l) = from_before y q id other pair r (lefts y q pair.1 (part_left j s t x y q (planned s w e) l) acked)
     answers y q id other pair r acked _ is lefts (Acks.ReadsIt next) =
@@ -121,7 +121,7 @@ pursued_halt s w j t x e _ f after old (Halted.Did k p is) = record {
               whole ∙ ap (λ (z : Plan). b.entries ++ appended (take j z.writes ++ write.Ledger ∷ [])) read_is ∙ ap (λ (l : List Entry). b.entries ++ l) (all_taken j y q (response_marker h b y id) enough) in
               record {
                 index = length b.entries;
-                answer = record { cluster = place.Known x; position = position_at b.ledgers (length b.entries - 1) };
+                answer = record { cluster = cluster_ref.Known x; position = position_at b.ledgers (length b.entries - 1) };
                 entry = response_marker h b y id;
                 at = record {
                   at = subst (λ (es : List Entry). slice_get es (length b.entries) ≡ Some (response_marker h b y id)) (sym last) (get_last b.entries (response_marker h b y id));
@@ -132,7 +132,7 @@ pursued_halt s w j t x e _ f after old (Halted.Did k p is) = record {
               }
         ]
       where
-        all_taken : (j y q : ℕ) (m : Entry) → 2 ≤ j → appended (take j (write.Append m ∷ write.SenderAck y q ∷ []) ++ write.Ledger ∷ []) ≡ m ∷ []
+        all_taken : (j y q : ℕ) (m : Entry) → 2 ≤ j → appended (take j (write.Append m ∷ write.ReplicatorAck y q ∷ []) ++ write.Ledger ∷ []) ≡ m ∷ []
         all_taken zero y q m le = absurd (omega (arith, le))
         all_taken (suc zero) y q m le = absurd (omega (arith, le))
         all_taken (suc (suc zero)) y q m le = refl
@@ -146,7 +146,7 @@ pursued_stop s w t x f old = record {
   answered = λ y q id other r acked.
       let b = topic_at s w t x in
       let lt : y < length s.clusters = subst (λ (z : ℕ). z < length s.clusters) (eqb-true r.entry.ident.origin y r.of) ((f.knows.answers t x f.there).origins q r.entry r.at) in
-      let wide = (f.replicates.sized.wide t x f.there).senders in
+      let wide = (f.replicates.sized.wide t x f.there).replicators in
       let a = old.answered y q id other (record { entry = r.entry; at = r.at; of = r.of; asks = r.asks })
       (done_left s.per_ledger b y q restart (omega (arith, wide, lt)) (restart_index y q) acked) in
       record { index = a.index; answer = a.answer; entry = a.entry; at = record { at = a.at.at; of = a.at.of; is = a.at.is }; to = a.to };

@@ -1,4 +1,4 @@
--- What a topic knows of requests that it has read and of answers that it has heard: each request of y that its sender to y acknowledged is
+-- What a topic knows of requests that it has read and of answers that it has heard: each request of y that its replicator to y acknowledged is
 -- answered; and each answer to the snapshot in the making that it acknowledged was heard. All of one broker at cluster x.
 use Rattle.std.proofs.Common.{cond, ◌≡◌, ℕ, zero, suc, ◌+◌, ◌-◌, ◌^◌, ◌<◌, ◌≤◌, Bool, true, false, List, [], ◌∷◌, ◌++◌, length, filter, refl, sym, ap, subst, ◌∙◌, ◌==◌, arith, inl, inr, not}
 use Rattle.std.specs.Prelude.{Some, if◌then◌else◌, ◌&&◌, ◌||◌, nat_lt}
@@ -7,16 +7,16 @@ use Rattle.std.proofs.lemmas.Bool.{eq-eqb, eqb-true, false≢true}
 use Rattle.std.proofs.lemmas.List.{length-append}
 use Rattle.std.proofs.lemmas.Option.{none-some, same_Some}
 use Rattle.std.proofs.lemmas.Slice.Eq.{bytes_eq-Decides}
-use Rattle.world_laws.proofs.Types.{Builder, ClusterPosition, Content, Entry, Place, Position, Progress}
+use Rattle.world_laws.proofs.Types.{SnapshotBuilder, ClusterPosition, Content, Entry, ClusterRef, Position, Progress}
 use Rattle.world_laws.proofs.Types.content
 use Rattle.world_laws.proofs.Types.marker
-use Rattle.world_laws.proofs.Types.place
+use Rattle.world_laws.proofs.Types.cluster_ref
 use Rattle.world_laws.proofs.Types.progress
 use Rattle.world_laws.proofs.Types.targets
-use Rattle.geo_base.specs.Broker.{Broker, Site, sender_at}
-use Rattle.geo_base.specs.Builder.{Heard, counts, current_id, judged, on_response, second_id, with_response}
+use Rattle.geo_base.specs.Broker.{Broker, Site, replicator_at}
+use Rattle.geo_base.specs.SnapshotBuilder.{Heard, counts, current_id, judged, on_response, second_id, with_response}
 use Rattle.geo_base.specs.Cursor.{has}
-use Rattle.geo_base.specs.Entry.{is_data, is_place}
+use Rattle.geo_base.specs.Entry.{is_data, means_cluster}
 use Rattle.geo_base.specs.Markers.{heard_from}
 use Rattle.geo_base.specs.Topic.{position_at}
 use Rattle.world_laws.proofs.Replicating.Cursors.{or_left, or_right}
@@ -80,13 +80,13 @@ pub record AnswersTo (x : ℕ) (es : List Entry) (y : ℕ) (id : List ℕ) : Typ
 -- what own markers say, and what was read of others'
 pub record Pursues (x : ℕ) (b : Broker) : Type 0 where
   pub all : (k : ℕ) (id : List ℕ) → (r : RequestAt x b.entries k id) → r.entry.to ≡ targets.All
-  pub names : (k : ℕ) (id : List ℕ) (answer : ClusterPosition) (e : Entry) → AnswerAt x b.entries k id answer e → answer.cluster ≡ place.Known x
-  pub answered : (y q : ℕ) (id : List ℕ) → (x ≡ y → ⊥) → RequestAt y b.entries q id → has (sender_at b y).cursor q ≡ true → AnswersTo x b.entries y id
-  pub heard : (u : Builder) (y p : ℕ) (answer : ClusterPosition) (e : Entry) → b.builder ≡ Some u → (x ≡ y → ⊥) → AnswerAt y b.entries p (current_id u) answer e
-      → is_place y answer.cluster ≡ true → has (sender_at b y).cursor p ≡ true → has u.heard y ≡ true
-  pub asked : (u : Builder) → b.builder ≡ Some u → (k : ℕ) × RequestAt x b.entries k (current_id u)
-  pub waits : (u : Builder) → b.builder ≡ Some u → nat_lt (length u.heard + 1) u.clusters ≡ true
-  pub going : (u : Builder) → b.builder ≡ Some u → u.finished ≡ false
+  pub names : (k : ℕ) (id : List ℕ) (answer : ClusterPosition) (e : Entry) → AnswerAt x b.entries k id answer e → answer.cluster ≡ cluster_ref.Known x
+  pub answered : (y q : ℕ) (id : List ℕ) → (x ≡ y → ⊥) → RequestAt y b.entries q id → has (replicator_at b y).cursor q ≡ true → AnswersTo x b.entries y id
+  pub heard : (u : SnapshotBuilder) (y p : ℕ) (answer : ClusterPosition) (e : Entry) → b.builder ≡ Some u → (x ≡ y → ⊥) → AnswerAt y b.entries p (current_id u) answer e
+      → means_cluster y answer.cluster ≡ true → has (replicator_at b y).cursor p ≡ true → has u.heard y ≡ true
+  pub asked : (u : SnapshotBuilder) → b.builder ≡ Some u → (k : ℕ) × RequestAt x b.entries k (current_id u)
+  pub waits : (u : SnapshotBuilder) → b.builder ≡ Some u → nat_lt (length u.heard + 1) u.clusters ≡ true
+  pub going : (u : SnapshotBuilder) → b.builder ≡ Some u → u.finished ≡ false
 
 abbrev is_response : Content → Bool
 is_response (content.Marked (marker.Response id answer)) = true
@@ -108,11 +108,11 @@ new_all h b id e (Added.Responded y i f id' source small other at of_f asks) of 
 new_all h b id e (Added.Completed y i f id' answer u u' next is' heard) of is = absurd (false≢true is)
 new_all h b id e (Added.Updated v cut) of is = absurd (false≢true is)
 
-abbrev answering : Content → Place
+abbrev answering : Content → ClusterRef
 answering (content.Marked (marker.Response id answer)) = answer.cluster
-answering c = place.Known 0
+answering c = cluster_ref.Known 0
 
-new_names : (h : Site) (b : Broker) (e : Entry) → Added h b e → is_of h.own e ≡ true → is_response e.content ≡ true → answering e.content ≡ place.Known h.own
+new_names : (h : Site) (b : Broker) (e : Entry) → Added h b e → is_of h.own e ≡ true → is_response e.content ≡ true → answering e.content ≡ cluster_ref.Known h.own
 new_names h b e (Added.Published e' own message) of is = absurd (unlike e.content message is)
   where
     unlike : (c : Content) → is_data c ≡ true → is_response c ≡ true → ⊥
@@ -137,8 +137,8 @@ all_grows h b more adds old k id r =
 
 -- and own answers name their cluster
 pub names_grow : (h : Site) (b : Broker) (more : List Entry) → Adds h b more
-    → ((k : ℕ) (id : List ℕ) (answer : ClusterPosition) (e : Entry) → AnswerAt h.own b.entries k id answer e → answer.cluster ≡ place.Known h.own)
-    → (k : ℕ) (id : List ℕ) (answer : ClusterPosition) (e : Entry) → AnswerAt h.own (b.entries ++ more) k id answer e → answer.cluster ≡ place.Known h.own
+    → ((k : ℕ) (id : List ℕ) (answer : ClusterPosition) (e : Entry) → AnswerAt h.own b.entries k id answer e → answer.cluster ≡ cluster_ref.Known h.own)
+    → (k : ℕ) (id : List ℕ) (answer : ClusterPosition) (e : Entry) → AnswerAt h.own (b.entries ++ more) k id answer e → answer.cluster ≡ cluster_ref.Known h.own
 names_grow h b more adds old k id answer e a =
     elim (old_or_new b.entries more k e a.at) [
       | inl o ↦ old k id answer e (record { at = o.1; of = a.of; is = a.is })
@@ -166,14 +166,14 @@ is_second progress.SecondRound = true
 is_second p = false
 
 -- it waits for more, and has heard all that it had heard
-pub record Waits (u u' : Builder) : Type 0 where
+pub record Waits (u u' : SnapshotBuilder) : Type 0 where
   pub same : current_id u' ≡ current_id u
   pub more : (c : ℕ) → has u.heard c ≡ true → has u'.heard c ≡ true
   pub waits : nat_lt (length u'.heard + 1) u'.clusters ≡ true
   pub going : u'.finished ≡ u.finished
 
 -- it begins its second round
-pub record BeginsSecond (u u' : Builder) : Type 0 where
+pub record BeginsSecond (u u' : SnapshotBuilder) : Type 0 where
   pub first : u.second ≡ false
   pub id : current_id u' ≡ second_id u.id
   pub none : u'.heard ≡ []
@@ -181,7 +181,7 @@ pub record BeginsSecond (u u' : Builder) : Type 0 where
   pub clusters : u'.clusters ≡ u.clusters
   pub going : u'.finished ≡ u.finished
 
-kept_waits : (u : Builder) (id : List ℕ) (y : ℕ) (remote local : Position) → let r = on_response u id y remote local in is_kept r.progress ≡ true → Waits u r.builder
+kept_waits : (u : SnapshotBuilder) (id : List ℕ) (y : ℕ) (remote local : Position) → let r = on_response u id y remote local in is_kept r.progress ≡ true → Waits u r.builder
 kept_waits u id y remote local =
     on_test K (counts u id y) _ _
     (λ _. let v = with_response u y remote local in
@@ -192,7 +192,7 @@ kept_waits u id y remote local =
     K : Heard → Type 0
     K r = is_kept r.progress ≡ true → Waits u r.builder
 
-second_begins : (u : Builder) (id : List ℕ) (y : ℕ) (remote local : Position) → let r = on_response u id y remote local in is_second r.progress ≡ true → BeginsSecond u r.builder
+second_begins : (u : SnapshotBuilder) (id : List ℕ) (y : ℕ) (remote local : Position) → let r = on_response u id y remote local in is_second r.progress ≡ true → BeginsSecond u r.builder
 second_begins u id y remote local =
     on_test K (counts u id y) _ _
     (λ _. let v = with_response u y remote local in
@@ -218,12 +218,12 @@ second_begins u id y remote local =
     nor true b h = absurd (false≢true (sym h))
     nor false b h = h
 
-pub waits_after : (b : Broker) (y i : ℕ) (id : List ℕ) (answer : ClusterPosition) (u u' : Builder) → Hears b y i id answer u progress.Kept u' → Waits u u'
+pub waits_after : (b : Broker) (y i : ℕ) (id : List ℕ) (answer : ClusterPosition) (u u' : SnapshotBuilder) → Hears b y i id answer u progress.Kept u' → Waits u u'
 waits_after b y i id answer u u' heard =
     let K : Heard → Type 0 = λ r. is_kept r.progress ≡ true → Waits u r.builder in
     subst K heard (kept_waits u id y answer.position (position_at b.ledgers i)) refl
 
-pub begins_after : (b : Broker) (y i : ℕ) (id : List ℕ) (answer : ClusterPosition) (u u' : Builder) → Hears b y i id answer u progress.SecondRound u' → BeginsSecond u u'
+pub begins_after : (b : Broker) (y i : ℕ) (id : List ℕ) (answer : ClusterPosition) (u u' : SnapshotBuilder) → Hears b y i id answer u progress.SecondRound u' → BeginsSecond u u'
 begins_after b y i id answer u u' heard =
     let K : Heard → Type 0 = λ r. is_second r.progress ≡ true → BeginsSecond u r.builder in
     subst K heard (second_begins u id y answer.position (position_at b.ledgers i)) refl
@@ -232,26 +232,26 @@ begins_after b y i id answer u u' heard =
 longer : (id : List ℕ) → id ≡ second_id id → ⊥
 longer id is = let size = ap (λ (l : List ℕ). length l) is ∙ length-append id (47 ∷ 50 ∷ []) in omega (arith, size)
 
-pub heard_now : (h : Site) (b : Broker) (y i : ℕ) (id : List ℕ) (answer : ClusterPosition) (u : Builder) → u.finished ≡ false → (y == u.own) ≡ false → nat_lt y u.clusters ≡ true
-    → (v : Builder) → builder_then (Some u) (heard_from h b y i (on_response u id y answer.position (position_at b.ledgers i))).changes ≡ Some v → id ≡ current_id v → has v.heard y ≡ true
+pub heard_now : (h : Site) (b : Broker) (y i : ℕ) (id : List ℕ) (answer : ClusterPosition) (u : SnapshotBuilder) → u.finished ≡ false → (y == u.own) ≡ false → nat_lt y u.clusters ≡ true
+    → (v : SnapshotBuilder) → builder_then (Some u) (heard_from h b y i (on_response u id y answer.position (position_at b.ledgers i))).changes ≡ Some v → id ≡ current_id v → has v.heard y ≡ true
 heard_now h b y i id answer u open_ other small =
     on_test K (counts u id y) _ _ yes not_counted
   where
     K : Heard → Type 0
-    K r = (v : Builder) → builder_then (Some u) (heard_from h b y i r).changes ≡ Some v → id ≡ current_id v → has v.heard y ≡ true
+    K r = (v : SnapshotBuilder) → builder_then (Some u) (heard_from h b y i r).changes ≡ Some v → id ≡ current_id v → has v.heard y ≡ true
 
-    w : Builder
+    w : SnapshotBuilder
     w = with_response u y answer.position (position_at b.ledgers i)
 
     yes : counts u id y ≡ true → K (judged w)
     yes counted =
         on_test K (nat_lt (length w.heard + 1) w.clusters) _ _
-        (λ more v is same. subst (λ (z : Builder). has z.heard y ≡ true) (same_Some w v is) (or_left (y == y) (has u.heard y) (eq-eqb y y refl)))
+        (λ more v is same. subst (λ (z : SnapshotBuilder). has z.heard y ≡ true) (same_Some w v is) (or_left (y == y) (has u.heard y) (eq-eqb y y refl)))
         (λ _. on_test K (w.second || (w.clusters == 2)) _ _ (λ last v is same. absurd (none-some v is))
         (λ first v is same.
         let mine : id ≡ current_id u = (bytes_eq-Decides id (current_id u)).0 (second_of (not u.finished) (bytes_eq id (current_id u)) (y == u.own) (nat_lt y u.clusters) (has u.heard y) counted) in
         let round : current_id u ≡ u.id = ap (λ (t : Bool). if t then second_id u.id else u.id) (first_not u.second (u.clusters == 2) first) in
-        let next : id ≡ second_id u.id = same ∙ ap (λ (z : Builder). current_id z) (sym (same_Some _ v is)) in
+        let next : id ≡ second_id u.id = same ∙ ap (λ (z : SnapshotBuilder). current_id z) (sym (same_Some _ v is)) in
         absurd (longer u.id (sym round ∙ sym mine ∙ next))))
       where
         second_of : (a c d e f : Bool) → (a && c && not d && e && not f) ≡ true → c ≡ true
@@ -264,8 +264,8 @@ heard_now h b y i id answer u open_ other small =
     not_counted : counts u id y ≡ false → K (record { progress = progress.Ignored; builder = u })
     not_counted none v is same =
         let it : u ≡ v = same_Some u v is in
-        let mine : bytes_eq id (current_id u) ≡ true = (bytes_eq-Decides id (current_id u)).1 (same ∙ ap (λ (z : Builder). current_id z) (sym it)) in
-        subst (λ (z : Builder). has z.heard y ≡ true) it
+        let mine : bytes_eq id (current_id u) ≡ true = (bytes_eq-Decides id (current_id u)).1 (same ∙ ap (λ (z : SnapshotBuilder). current_id z) (sym it)) in
+        subst (λ (z : SnapshotBuilder). has z.heard y ≡ true) it
         (left_one (not u.finished) (bytes_eq id (current_id u)) (y == u.own) (nat_lt y u.clusters) (has u.heard y) none (ap not open_) mine other small)
       where
         left_one : (a c d e f : Bool) → (a && c && not d && e && not f) ≡ false → a ≡ true → c ≡ true → d ≡ false → e ≡ true → f ≡ true

@@ -1,21 +1,21 @@
--- A fact that events of settling keep holds after a settling; and what such an event does to cursors of senders, which only grow.
+-- A fact that events of settling keep holds after a settling; and what such an event does to cursors of replicators, which only grow.
 use Rattle.std.proofs.Common.{◌≡◌, ℕ, zero, suc, ◌+◌, ◌<◌, Bool, true, false, List, [], ◌∷◌, length, refl, sym, ap, subst, ◌∙◌, ◌==◌}
 use Rattle.std.specs.Prelude.{◌||◌, is_some}
 use Rattle.world_laws.proofs.Types.{Event, Fate, Write}
 use Rattle.world_laws.proofs.Types.event
 use Rattle.world_laws.proofs.Types.fate
 use Rattle.world_laws.proofs.Types.write
-use Rattle.geo_base.specs.Broker.{Broker, sender_at}
+use Rattle.geo_base.specs.Broker.{Broker, replicator_at}
 use Rattle.geo_base.specs.Cursor.{has}
 use Rattle.geo_base.specs.Happening.{happens}
 use Rattle.geo_base.specs.Laws.{after_settling, begun}
 use Rattle.geo_base.specs.Plan.{Plan, done}
 use Rattle.geo_base.specs.Run.{Pair, Ran, all_settle, budget, counting_round, goes_on, no_limits, pairs, resets_of, round_of, rounds_of, settled_world, settles}
-use Rattle.geo_base.specs.Sender.{Sender}
+use Rattle.geo_base.specs.Replicator.{Replicator}
 use Rattle.geo_base.specs.Setup.{Setup}
 use Rattle.geo_base.specs.World.{World}
 use Rattle.world_laws.proofs.Replicating.Cursors.{has_more}
-use Rattle.world_laws.proofs.Replicating.Effects.{Each, done_sender, sender_after, sender_written}
+use Rattle.world_laws.proofs.Replicating.Effects.{Each, done_replicator, replicator_after, replicator_written}
 use Rattle.world_laws.proofs.Walks.Walk.{on_elim, on_if}
 use Rattle.failover_laws.proofs.Acting.Acking.{changes_left}
 
@@ -68,11 +68,11 @@ unfolding settled_world
 settling_keeps s P k w p =
     rounds_keep (budget s w + 1) s P k (all_settle no_limits s (begun w) (resets_of (pairs s))) (events_keep s P k (begun w) (resets_of (pairs s)) (resets_settle (pairs s)) p)
 
--- ---- cursors of senders grow
+-- ---- cursors of replicators grow
 
-write_keeps_index : (y i : ℕ) (s : Sender) (w : Write) → has s.cursor i ≡ true → has (sender_written y s w).cursor i ≡ true
-write_keeps_index y i s (write.SenderAck z k) h = on_if (λ (v : Sender). has v.cursor i ≡ true) (z == y) _ _ (has_more s.cursor k i h) h
-write_keeps_index y i s (write.SessionNumber z n) h = on_if (λ (v : Sender). has v.cursor i ≡ true) (z == y) _ _ h h
+write_keeps_index : (y i : ℕ) (s : Replicator) (w : Write) → has s.cursor i ≡ true → has (replicator_written y s w).cursor i ≡ true
+write_keeps_index y i s (write.ReplicatorAck z k) h = on_if (λ (v : Replicator). has v.cursor i ≡ true) (z == y) _ _ (has_more s.cursor k i h) h
+write_keeps_index y i s (write.SessionNumber z n) h = on_if (λ (v : Replicator). has v.cursor i ≡ true) (z == y) _ _ h h
 write_keeps_index y i s (write.Append e) h = h
 write_keeps_index y i s (write.Create n kind replicated latest) h = h
 write_keeps_index y i s (write.Alter n kind replicated) h = h
@@ -81,11 +81,11 @@ write_keeps_index y i s (write.Acks n is) h = h
 write_keeps_index y i s (write.Seek n k) h = h
 write_keeps_index y i s write.Ledger h = h
 
-writes_keep_index : (y i : ℕ) (s : Sender) (ws : List Write) → has s.cursor i ≡ true → has (sender_after y s ws).cursor i ≡ true
+writes_keep_index : (y i : ℕ) (s : Replicator) (ws : List Write) → has s.cursor i ≡ true → has (replicator_after y s ws).cursor i ≡ true
 writes_keep_index y i s [] h = h
-writes_keep_index y i s (w ∷ ws) h = writes_keep_index y i (sender_written y s w) ws (write_keeps_index y i s w h)
+writes_keep_index y i s (w ∷ ws) h = writes_keep_index y i (replicator_written y s w) ws (write_keeps_index y i s w h)
 
-pub done_keeps_index : (per : ℕ) (b : Broker) (y i : ℕ) (p : Plan) → y < length b.senders → has (sender_at b y).cursor i ≡ true → has (sender_at (done per b p) y).cursor i ≡ true
+pub done_keeps_index : (per : ℕ) (b : Broker) (y i : ℕ) (p : Plan) → y < length b.replicators → has (replicator_at b y).cursor i ≡ true → has (replicator_at (done per b p) y).cursor i ≡ true
 done_keeps_index per b y i p lt h =
     subst (λ (set : List ℕ). has set i ≡ true)
-    (sym (ap (λ (v : Sender). v.cursor) (done_sender per b y p lt) ∙ changes_left y (sender_after y (sender_at b y) p.writes) p.changes)) (writes_keep_index y i (sender_at b y) p.writes h)
+    (sym (ap (λ (v : Replicator). v.cursor) (done_replicator per b y p lt) ∙ changes_left y (replicator_after y (replicator_at b y) p.writes) p.changes)) (writes_keep_index y i (replicator_at b y) p.writes h)

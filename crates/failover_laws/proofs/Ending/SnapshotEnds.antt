@@ -5,10 +5,10 @@ use Rattle.std.specs.List.{list_any}
 use Rattle.std.proofs.lemmas.Bool.{lt-ltb}
 use Rattle.std.proofs.lemmas.List.{get_or-set_same}
 use Rattle.std.proofs.lemmas.Option.{none-some, same_Some, slice_get_within}
-use Rattle.world_laws.proofs.Types.{Builder, Entry}
+use Rattle.world_laws.proofs.Types.{SnapshotBuilder, Entry}
 use Rattle.world_laws.proofs.Types.event
-use Rattle.geo_base.specs.Broker.{Broker, Site, cluster_name, no_broker, sender_at}
-use Rattle.geo_base.specs.Builder.{snapshot_id, started}
+use Rattle.geo_base.specs.Broker.{Broker, Site, cluster_name, no_broker, replicator_at}
+use Rattle.geo_base.specs.SnapshotBuilder.{snapshot_id, started}
 use Rattle.geo_base.specs.Cursor.{has}
 use Rattle.geo_base.specs.Happening.{broker_does, does_planned, happens}
 use Rattle.geo_base.specs.Laws.{IsShort, after_settling}
@@ -48,7 +48,7 @@ snap_plans : (h : Site) (b : Broker) → list_any (λ (u : Subscription). u.repl
 unfolding snap
 snap_plans h b any none =
     on_true (list_any (λ (u : Subscription). u.replicated) b.subs && is_none b.builder) _ idle_plan
-    (both (list_any (λ (u : Subscription). u.replicated) b.subs) (is_none b.builder) any (ap (λ (o : Option Builder). is_none o) none))
+    (both (list_any (λ (u : Subscription). u.replicated) b.subs) (is_none b.builder) any (ap (λ (o : Option SnapshotBuilder). is_none o) none))
 
 planned_snap : (s : Setup) (v : World) (t x : ℕ) → MaySnap s v t x → planned s v (event.Snap t x) ≡ Some (at_node t x None (asking s v t x))
 unfolding planned
@@ -76,7 +76,7 @@ start_goes s v t x a _ m traced small (Became.Did k q is) = record {
         | inr new ↦ last (i - length b.entries) e new.1
       ];
   subs = subst (λ (p : Plan). (done s.per_ledger b p).subs ≡ b.subs) (sym same) refl;
-  acked = λ z i lt h. done_keeps_index s.per_ledger b z i q (let wide = (traced.0.0.0.0.0.0.0.sized.wide t a (m.there.0, small)).senders in omega (arith, wide, lt)) h;
+  acked = λ z i lt h. done_keeps_index s.per_ledger b z i q (let wide = (traced.0.0.0.0.0.0.0.sized.wide t a (m.there.0, small)).replicators in omega (arith, wide, lt)) h;
 }
   where
     b : Broker
@@ -146,7 +146,7 @@ phase_keeps s v t x id over small = record {
           reached = r;
           own = λ a i e lt is of le. p.own a i e lt (subst (λ (c : Broker). slice_get c.entries i ≡ Some e) (sym (at a)) is) of le;
           subs = λ a lt. subst (λ (c : Broker). c.subs ≡ (topic_at s v t a).subs) (at a) (p.subs a lt);
-          acked = λ a z i lt lt_z h. subst (λ (c : Broker). has (sender_at c z).cursor i ≡ true) (at a) (p.acked a z i lt lt_z h);
+          acked = λ a z i lt lt_z h. subst (λ (c : Broker). has (replicator_at c z).cursor i ≡ true) (at a) (p.acked a z i lt lt_z h);
           made = making w w' same p.made;
         }
 

@@ -62,5 +62,5 @@ request_of s w t x y p id answer e f pair at =
 pub awaits : (s : Setup) (w : World) (t x y i : ℕ) (e : Entry) → Facts s w t x → ArePair s x y
     → (i < length (topic_at s w t x).entries → slice_get (topic_at s w t x).entries i ≡ Some e) → is_of y e ≡ true → Awaits s w t x y i
 awaits s w t x y i e f pair at of =
-    let wide = (f.replicates.sized.wide t x f.there).senders in let small = pair.1 in
+    let wide = (f.replicates.sized.wide t x f.there).replicators in let small = pair.1 in
     record { there = f.there; size = omega (arith, wide, small); none = not_awaited s w t x y i e f.replicates f.there.0 pair at (eqb-true e.ident.origin y of) }

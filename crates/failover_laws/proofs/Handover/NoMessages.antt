@@ -105,8 +105,8 @@ reads_silent h b y q (Reads.Counts i e id answer u u' next is heard) = nothing h
 reads_silent h b y q (Reads.AsksAgain i e id answer u u' next is heard) = one h.own q _ refl refl
 reads_silent h b y q (Reads.Completes i e id answer u u' next is heard) = one h.own q _ refl refl
 reads_silent h b y q (Reads.CreatesAt i j e n told next is named) = nothing h.own q refl
-reads_silent h b y q (Reads.PassesOver i j e n told v ws next is named Updates.NoUpdate) = nothing h.own q refl
-reads_silent h b y q (Reads.PassesOver i j e n told v ws next is named (Updates.Update cut replicated passed)) = one h.own q _ refl refl
+reads_silent h b y q (Reads.ActsOnUpdate i j e n told v ws next is named Updates.NoUpdate) = nothing h.own q refl
+reads_silent h b y q (Reads.ActsOnUpdate i j e n told v ws next is named (Updates.Update cut replicated passed)) = one h.own q _ refl refl
 
 snaps_silent : (h : Site) (b : Broker) (q : Plan) → Snaps h b q → Silent h.own q
 snaps_silent h b q Snaps.NothingToAsk = idle_silent h.own
@@ -115,8 +115,8 @@ snaps_silent h b q (Snaps.Asks any none) = one h.own q _ refl refl
 offers_silent : (h : Site) (b : Broker) (n : List ℕ) (q : Plan) → Offers h b n q → Silent h.own q
 offers_silent h b n q Offers.NothingToOffer = idle_silent h.own
 offers_silent h b n q (Offers.Gives v i at e due is picked) = nothing h.own q refl
-offers_silent h b n q (Offers.PassesBy v i e ws due is Updates.NoUpdate) = nothing h.own q refl
-offers_silent h b n q (Offers.PassesBy v i e ws due is (Updates.Update cut replicated passed)) = one h.own q _ refl refl
+offers_silent h b n q (Offers.SkipsMarker v i e ws due is Updates.NoUpdate) = nothing h.own q refl
+offers_silent h b n q (Offers.SkipsMarker v i e ws due is (Updates.Update cut replicated passed)) = one h.own q _ refl refl
 offers_silent h b n q (Offers.Caches v i j e c ws due is Updates.NoUpdate) = nothing h.own q refl
 offers_silent h b n q (Offers.Caches v i j e c ws due is (Updates.Update cut replicated passed)) = one h.own q _ refl refl
 

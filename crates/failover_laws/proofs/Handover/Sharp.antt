@@ -6,7 +6,7 @@ use Rattle.world_laws.proofs.Types.{ClusterPosition, Step}
 use Rattle.world_laws.proofs.Types.event
 use Rattle.world_laws.proofs.Types.line
 use Rattle.world_laws.proofs.Types.marker
-use Rattle.world_laws.proofs.Types.place
+use Rattle.world_laws.proofs.Types.cluster_ref
 use Rattle.world_laws.proofs.Types.step
 use Rattle.world_laws.proofs.Types.sub_kind
 use Rattle.geo_base.specs.Broker.{sub_named}
@@ -75,7 +75,7 @@ nothing_there = refl
 
 -- and the update names index 0 there
 told : List ClusterPosition
-told = record { cluster = place.Known 1; position = record { ledger = 0; entry = 0 } } ∷ []
+told = record { cluster = cluster_ref.Known 1; position = record { ledger = 0; entry = 0 } } ∷ []
 
 stands : MarkerAt (topic_at setup (after 3) 0 0) 3 0 (marker.Update (codes "s1") told)
 unfolding setup before after told digits go reconnect serve reset take_packet receipt read snap offer planned broker_does client_does happens steps settled_world

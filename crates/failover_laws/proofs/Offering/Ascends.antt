@@ -11,7 +11,7 @@ use Rattle.geo_base.specs.Broker.{Broker, changed, new_broker, no_broker, sub_na
 use Rattle.geo_base.specs.Cache.{cached}
 use Rattle.geo_base.specs.Client.{Acted}
 use Rattle.geo_base.specs.Cursor.{below, has, mark_from}
-use Rattle.geo_base.specs.Dispatcher.{given, passed_index}
+use Rattle.geo_base.specs.Dispatcher.{given, skipped_index}
 use Rattle.geo_base.specs.Happening.{broker_does, broker_halts, client_does, stops}
 use Rattle.geo_base.specs.Plan.{Plan, all_changed, all_written, done}
 use Rattle.geo_base.specs.Planned.{Planned}
@@ -84,7 +84,7 @@ written_ascends per b (write.Alter n kind replicated) h = at_subs b n (λ s. rec
 written_ascends per b (write.Delete n) h = each_filter SubAscends (λ (s : Subscription). not (bytes_eq s.name n)) b.subs h
 written_ascends per b (write.Acks n is) h = at_subs b n (with_acks is) (λ v k. rising_with_indexes v.cursor is k) h
 written_ascends per b (write.Seek n i) h = at_subs b n (sought i) (λ v k. rising_below i) h
-written_ascends per b (write.SenderAck y i) h = h
+written_ascends per b (write.ReplicatorAck y i) h = h
 written_ascends per b (write.SessionNumber y n) h = h
 written_ascends per b (write.Append e) h = h
 written_ascends per b write.Ledger h = h
@@ -93,7 +93,7 @@ changed_ascends : (b : Broker) (c : Change) → SubsAscend b → SubsAscend (cha
 changed_ascends b (change.Attach n k) h = at_subs b n (attached k) (λ v p. p) h
 changed_ascends b (change.Detach c) h = each_to SubAscends SubAscends (detached c) (λ v p. p) b.subs h
 changed_ascends b (change.Permit n c k) h = at_subs b n (permitted c k) (λ v p. p) h
-changed_ascends b (change.Passed n i) h = at_subs b n (passed_index i) (λ v p. p) h
+changed_ascends b (change.Skipped n i) h = at_subs b n (skipped_index i) (λ v p. p) h
 changed_ascends b (change.Given n i at) h = at_subs b n (given i at) (λ v p. p) h
 changed_ascends b (change.Cache n c) h = at_subs b n (λ s. record s { cache = cached s.cache c }) (λ v p. p) h
 changed_ascends b (change.Acked n) h = at_subs b n after_acks (λ v p. p) h

@@ -10,7 +10,7 @@ use Rattle.world_laws.proofs.Types.write
 use Rattle.geo_base.specs.Broker.{Broker, Site, changed, sub_named, written}
 use Rattle.geo_base.specs.Cache.{cached}
 use Rattle.geo_base.specs.Cursor.{with_indexes}
-use Rattle.geo_base.specs.Dispatcher.{passed_index}
+use Rattle.geo_base.specs.Dispatcher.{skipped_index}
 use Rattle.geo_base.specs.Entry.{is_data}
 use Rattle.geo_base.specs.Offering.{message}
 use Rattle.geo_base.specs.Plan.{Plan, all_changed, all_written, done, plan_of}
@@ -30,7 +30,7 @@ KeepsName w = ⊥
 
 abbrev pub NamesStay : Change → Type 0
 NamesStay (change.Cache n c) = Unit {0}
-NamesStay (change.Passed n i) = Unit {0}
+NamesStay (change.Skipped n i) = Unit {0}
 NamesStay (change.Acked n) = Unit {0}
 NamesStay c = ⊥
 
@@ -45,7 +45,7 @@ found_after per b n v (w ∷ ws) k h = found_after per (written per b w) n (sub_
 
 found_changed : (b : Broker) (n : List ℕ) (v : Subscription) (c : Change) → NamesStay c → sub_named b.subs n ≡ Some v → sub_named (changed b c).subs n ≡ Some (sub_changed v c)
 found_changed b n v (change.Cache m c) k h = named_at b.subs n m (λ s. record s { cache = cached s.cache c }) v (λ u. refl) h
-found_changed b n v (change.Passed m i) k h = named_at b.subs n m (passed_index i) v (λ u. refl) h
+found_changed b n v (change.Skipped m i) k h = named_at b.subs n m (skipped_index i) v (λ u. refl) h
 found_changed b n v (change.Acked m) k h = named_at b.subs n m after_acks v (λ u. refl) h
 found_changed b n v c k h = absurd k
 
@@ -64,7 +64,7 @@ pub record IsAt (set : List ℕ) (v : Subscription) : Type 0 where
 
 changed_at : (set : List ℕ) (v : Subscription) (c : Change) → NamesStay c → IsAt set v → IsAt set (sub_changed v c)
 changed_at set v (change.Cache m c) k h = on_if (IsAt set) (bytes_eq v.name m) _ _ (record { replicated = h.replicated; cursor = h.cursor }) h
-changed_at set v (change.Passed m i) k h = on_if (IsAt set) (bytes_eq v.name m) _ _ (record { replicated = h.replicated; cursor = h.cursor }) h
+changed_at set v (change.Skipped m i) k h = on_if (IsAt set) (bytes_eq v.name m) _ _ (record { replicated = h.replicated; cursor = h.cursor }) h
 changed_at set v (change.Acked m) k h = on_if (IsAt set) (bytes_eq v.name m) _ _ (record { replicated = h.replicated; cursor = h.cursor }) h
 changed_at set v c k h = absurd k
 

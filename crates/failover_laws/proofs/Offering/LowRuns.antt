@@ -18,7 +18,7 @@ use Rattle.geo_base.specs.Happening.{broker_does, broker_halts, client_does, sto
 use Rattle.geo_base.specs.Laws.{IsShort}
 use Rattle.geo_base.specs.Plan.{all_changed, all_written, done, halted}
 use Rattle.geo_base.specs.Planned.{Planned}
-use Rattle.geo_base.specs.Position.{nowhere}
+use Rattle.geo_base.specs.Position.{no_position}
 use Rattle.geo_base.specs.Scripted.{IsScripted}
 use Rattle.geo_base.specs.Seeking.{restart}
 use Rattle.geo_base.specs.Setup.{Setup}
@@ -60,7 +60,7 @@ is_snapshot c = false
 
 abbrev local_of : Content → Position
 local_of (content.Marked (marker.Snapshot id local remote)) = local
-local_of c = nowhere
+local_of c = no_position
 
 new_low : (h : Site) (b : Broker) (e : Entry) (i : ℕ) (id : List ℕ) (local : Position) (remote : List ClusterPosition) → h.own < length h.clusters → 2 ≤ length h.clusters → Numbered b.entries b.ledgers
     → MadeAfter (length h.clusters) h.own (cluster_name h h.own) b.entries b.ledgers b.builder → length b.entries ≤ i → is_of h.own e ≡ true

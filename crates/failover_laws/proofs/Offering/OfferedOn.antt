@@ -3,7 +3,7 @@ use Rattle.std.proofs.Common.{◌≡◌, ℕ, ◌^◌, ◌<◌, ◌≤◌, true,
 use Rattle.std.specs.Prelude.{Option, Some}
 use Rattle.world_laws.proofs.Types.{ClusterPosition, Marker, Step}
 use Rattle.world_laws.proofs.Types.marker
-use Rattle.world_laws.proofs.Types.place
+use Rattle.world_laws.proofs.Types.cluster_ref
 use Rattle.world_laws.proofs.Types.step
 use Rattle.geo_base.specs.Broker.{Broker, sub_named}
 use Rattle.geo_base.specs.Laws.{MarkerAt, begun}
@@ -50,7 +50,7 @@ asked_alike s v v' w w' t x remote av aw q =
       snapshot = marker_at (topic_at s w t x) (topic_at s w' t x) q.index x (marker.Snapshot q.id q.local q.listed) bw q.snapshot;
       same = q.same;
       request = q.request;
-      asks = marker_at (topic_at s w t x) (topic_at s w' t x) q.request x (marker.Request q.id (place.Known x)) bw q.asks;
+      asks = marker_at (topic_at s w t x) (topic_at s w' t x) q.request x (marker.Request q.id (cluster_ref.Known x)) bw q.asks;
       since = subst (λ (b : Broker). length b.entries ≤ q.request) (same_at s v v' t x av) q.since;
     }
 

@@ -27,7 +27,7 @@ snaps_take m h b q (Snaps.Asks any none) = refl
 offers_take : (m : List ℕ) (h : Site) (b : Broker) (n : List ℕ) (q : Plan) → Offers h b n q → list_any (takes_back m) q.writes ≡ false
 offers_take m h b n q Offers.NothingToOffer = refl
 offers_take m h b n q (Offers.Gives v i at e due is picked) = refl
-offers_take m h b n q (Offers.PassesBy v i e ws due is after) = updates_take m h b _ ws after
+offers_take m h b n q (Offers.SkipsMarker v i e ws due is after) = updates_take m h b _ ws after
 offers_take m h b n q (Offers.Caches v i j e c ws due is after) = updates_take m h b _ ws after
 
 snap_leaves : (s : Setup) (t y : ℕ) (n : List ℕ) (w : World) (u x : ℕ) → leaves s t y n (planned s w (event.Snap u x)) ≡ true

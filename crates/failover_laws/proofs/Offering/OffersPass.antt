@@ -6,18 +6,18 @@ use Rattle.std.specs.List.{list_any}
 use Rattle.std.proofs.lemmas.Bool.{eq-eqb, eqb-true, false≢true, lt-ltb}
 use Rattle.std.proofs.lemmas.List.{length-append}
 use Rattle.std.proofs.lemmas.Option.{none-some, same_Some}
-use Rattle.world_laws.proofs.Types.{CachedSnapshot, Change, ClusterPosition, Cut, Entry, Outstanding, Position}
+use Rattle.world_laws.proofs.Types.{CachedSnapshot, Change, ClusterPosition, Cut, Entry, Unacked, Position}
 use Rattle.world_laws.proofs.Types.change
 use Rattle.world_laws.proofs.Types.content
 use Rattle.world_laws.proofs.Types.marker
 use Rattle.world_laws.proofs.Types.targets
 use Rattle.geo_base.specs.Broker.{Broker, Site, sub_named}
-use Rattle.geo_base.specs.Builder.{named}
+use Rattle.geo_base.specs.SnapshotBuilder.{named}
 use Rattle.geo_base.specs.Cache.{any_passed, cached, cut_of, last_passed, most_cached}
 use Rattle.geo_base.specs.Cursor.{has, mark, with_indexes}
 use Rattle.geo_base.specs.Dispatcher.{consumer_at, is_due, least_due, pick}
 use Rattle.geo_base.specs.Entry.{is_data, key_bytes}
-use Rattle.geo_base.specs.Offering.{message, offer, offer_entry, own_snapshot, passes_by}
+use Rattle.geo_base.specs.Offering.{message, offer, offer_entry, own_snapshot, skips_marker}
 use Rattle.geo_base.specs.Plan.{Plan, all_written, done, idle_plan, plan_of, unless_found}
 use Rattle.geo_base.specs.Storing.{appending_update, update_marker}
 use Rattle.geo_base.specs.Subscription.{Subscription, is_attached}
@@ -39,6 +39,7 @@ use Rattle.failover_laws.proofs.Lasting.{found_name}
 use Rattle.failover_laws.proofs.Offering.Ascends.{mark_high}
 use Rattle.failover_laws.proofs.Offering.FoundAgain.{NamesStay, no_message, Passes, passing_plan, plan_passes}
 use Rattle.failover_laws.proofs.Offering.Outs.{MessageAt, OutIn}
+use Rattle.geo_base.proofs.Bools.{unless_false}
 
 any_last : (m : ℕ) (xs : List CachedSnapshot) (c : CachedSnapshot) → nat_lt c.index m ≡ true → any_passed m (xs ++ c ∷ []) ≡ true
 any_last m [] c lt = ap (λ (b : Bool). b || false) lt
@@ -101,8 +102,8 @@ pub record InMemory (b : Broker) (v : Subscription) : Type 0 where
   pub out : OutIn b.entries v
   pub ascends : Rising 0 v.cursor
 
-out_message : (es : List Entry) (v : Subscription) (i : ℕ) (os : List Outstanding) → Each (λ (o : Outstanding). MessageAt es o.index) os
-    → list_any (λ (o : Outstanding). (o.index == i) && is_attached o.client v) os ≡ true → MessageAt es i
+out_message : (es : List Entry) (v : Subscription) (i : ℕ) (os : List Unacked) → Each (λ (o : Unacked). MessageAt es o.index) os
+    → list_any (λ (o : Unacked). (o.index == i) && is_attached o.client v) os ≡ true → MessageAt es i
 out_message es v i [] h is = absurd (false≢true is)
 out_message es v i (o ∷ os) h is =
     elim (either ((o.index == i) && is_attached o.client v) _ is) [
@@ -133,10 +134,6 @@ due_lacks h m own_at local_at local listed snap n b j v q f s mem k le lacks =
     by (Kept.Out out) = absurd (no_message_at (out_message b.entries v k v.out mem.out out))
     by (Kept.Due d) = due (has v.cursor k) _ lacks (ap (λ (t : Bool). t || nat_le v.read_index k) d)
     by (Kept.Ahead a) = due (has v.cursor k) _ lacks (or_right (has v.due k) _ a)
-
-undue : (c d : Bool) → (not c && d) ≡ true → c ≡ false
-undue true d h = absurd (false≢true h)
-undue false d h = refl
 
 -- after j offers that did not come to the snapshot
 pub record StillBelow (h : Site) (m own_at local_at : ℕ) (local : Position) (snap : Entry) (n : List ℕ) (j : ℕ) (c : Broker) : Type 0 where
@@ -254,7 +251,7 @@ entry_state h m own_at local_at i j local listed snap e n b v q f s mem here nex
     least = least_due_is v 0 (length b.entries) i next
 
     lacks : has v.cursor i ≡ false
-    lacks = undue (has v.cursor i) _ least.due
+    lacks = unless_false (has v.cursor i) _ least.due
 
     -- it is the snapshot, or below it
     up_to : i ≤ own_at
@@ -319,17 +316,17 @@ entry_state h m own_at local_at i j local listed snap e n b v q f s mem here nex
     never is same =
         none-some _ (sym is ∙ ap (λ (z : Entry). own_snapshot h b v z.ident.origin z.content) (its same) ∙ snapshot_enters h b v own_at local_at local listed snap q s.replicated f.stored)
 
-    over : (o : Option CachedSnapshot) → own_snapshot h b v e.ident.origin e.content ≡ o → OffersDone h m own_at local_at local snap n (places h local listed) (j + 1) (offered h b (passes_by h b v i o))
+    over : (o : Option CachedSnapshot) → own_snapshot h b v e.ident.origin e.content ≡ o → OffersDone h m own_at local_at local snap n (places h local listed) (j + 1) (offered h b (skips_marker h b v i o))
     over None is =
-        passed_state h m own_at local_at i j local listed snap n b v (cut_told v i v.cache) (change.Passed v.name i ∷ change.Acked v.name ∷ []) f s here (tt, (tt, tt)) clear (λ same. absurd (never is same))
+        passed_state h m own_at local_at i j local listed snap n b v (cut_told v i v.cache) (change.Skipped v.name i ∷ change.Acked v.name ∷ []) f s here (tt, (tt, tt)) clear (λ same. absurd (never is same))
     over (Some c) is =
-        passed_state h m own_at local_at i j local listed snap n b v (cut_told v i (cached v.cache c)) (change.Cache v.name c ∷ change.Passed v.name i ∷ change.Acked v.name ∷ []) f s here (tt, (tt, (tt, tt))) clear
+        passed_state h m own_at local_at i j local listed snap n b v (cut_told v i (cached v.cache c)) (change.Cache v.name c ∷ change.Skipped v.name i ∷ change.Acked v.name ∷ []) f s here (tt, (tt, (tt, tt))) clear
         (λ same. told c is same)
 
     by : (t : Bool) → is_data e.content ≡ t
         → OffersDone h m own_at local_at local snap n (places h local listed) (j + 1)
         (offered h b (if t then unless_found idle_plan (pick v.kind v.consumers (key_bytes e.meta.key)) (λ at. plan_of [] (change.Given v.name i at ∷ []) (message h b i e (consumer_at v.consumers at)))
-        else passes_by h b v i (own_snapshot h b v e.ident.origin e.content)))
+        else skips_marker h b v i (own_snapshot h b v e.ident.origin e.content)))
     by true message =
         elim (below_or i own_at) [
           | inl lt ↦ absurd (false≢true (sym lacks ∙ s.drained i e lt at message))

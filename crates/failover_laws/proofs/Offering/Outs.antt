@@ -5,7 +5,7 @@ use Rattle.std.specs.List.{list_any}
 use Rattle.std.specs.Str.{bytes_eq}
 use Rattle.std.proofs.lemmas.Bool.{eq-eqb, false≢true}
 use Rattle.std.proofs.lemmas.Slice.Eq.{bytes_eq-Decides}
-use Rattle.world_laws.proofs.Types.{Change, Entry, Outstanding, Write}
+use Rattle.world_laws.proofs.Types.{Change, Entry, Unacked, Write}
 use Rattle.world_laws.proofs.Types.change
 use Rattle.world_laws.proofs.Types.write
 use Rattle.geo_base.specs.Broker.{Broker, changed, new_broker, no_broker, sub_named, written}
@@ -37,13 +37,13 @@ abbrev pub MessageAt : List Entry → ℕ → Type 0
 MessageAt es i = (e : Entry) × (slice_get es i ≡ Some e) × (is_data e.content ≡ true)
 
 abbrev pub OutIn : List Entry → Subscription → Type 0
-OutIn es v = Each (λ (o : Outstanding). MessageAt es o.index) v.out
+OutIn es v = Each (λ (o : Unacked). MessageAt es o.index) v.out
 
 message_grows : (es more : List Entry) (i : ℕ) → MessageAt es i → MessageAt (es ++ more) i
 message_grows es more i m = (m.0, get_left es more i m.0 m.1, m.2)
 
 out_grows : (es more : List Entry) (v : Subscription) → OutIn es v → OutIn (es ++ more) v
-out_grows es more v h = each_map (λ (o : Outstanding). MessageAt es o.index) (λ (o : Outstanding). MessageAt (es ++ more) o.index) (λ o m. message_grows es more o.index m) v.out h
+out_grows es more v h = each_map (λ (o : Unacked). MessageAt es o.index) (λ (o : Unacked). MessageAt (es ++ more) o.index) (λ o m. message_grows es more o.index m) v.out h
 
 -- ---- changes
 
@@ -51,7 +51,7 @@ each_left : {X : Type 0} (P : X → Type 0) (f : X → Bool) (xs : List X) → E
 each_left P f [] h = tt
 each_left P f (x ∷ xs) h = on_if (Each P) (f x) (x ∷ filter f xs) (filter f xs) (h.0, each_left P f xs h.1) (each_left P f xs h.1)
 
-each_with : (P : Outstanding → Type 0) (xs : List Outstanding) (o : Outstanding) → P o → Each P xs → Each P (with_out xs o)
+each_with : (P : Unacked → Type 0) (xs : List Unacked) (o : Unacked) → P o → Each P xs → Each P (with_out xs o)
 each_with P [] o p h = (p, tt)
 each_with P (x ∷ xs) o p h =
     on_if (Each P) (nat_lt o.index x.index) _ _ (p, h) (on_if (Each P) (x.index == o.index) _ _ (p, h.1) (h.0, each_with P xs o p h.1))
@@ -62,12 +62,12 @@ GivesMessage es c = Unit {0}
 
 change_out : (es : List Entry) (c : Change) (v : Subscription) → GivesMessage es c → OutIn es v → OutIn es (sub_changed v c)
 change_out es (change.Attach n k) v g h = on_if (OutIn es) (bytes_eq v.name n) _ _ h h
-change_out es (change.Detach c) v g h = each_left (λ (o : Outstanding). MessageAt es o.index) _ v.out h
+change_out es (change.Detach c) v g h = each_left (λ (o : Unacked). MessageAt es o.index) _ v.out h
 change_out es (change.Permit n c k) v g h = on_if (OutIn es) (bytes_eq v.name n) _ _ h h
-change_out es (change.Passed n i) v g h = on_if (OutIn es) (bytes_eq v.name n) _ _ h h
-change_out es (change.Given n i at) v g h = on_if (OutIn es) (bytes_eq v.name n) _ _ (each_with (λ (o : Outstanding). MessageAt es o.index) v.out _ g h) h
+change_out es (change.Skipped n i) v g h = on_if (OutIn es) (bytes_eq v.name n) _ _ h h
+change_out es (change.Given n i at) v g h = on_if (OutIn es) (bytes_eq v.name n) _ _ (each_with (λ (o : Unacked). MessageAt es o.index) v.out _ g h) h
 change_out es (change.Cache n c) v g h = on_if (OutIn es) (bytes_eq v.name n) _ _ h h
-change_out es (change.Acked n) v g h = on_if (OutIn es) (bytes_eq v.name n) _ _ (each_left (λ (o : Outstanding). MessageAt es o.index) _ v.out h) h
+change_out es (change.Acked n) v g h = on_if (OutIn es) (bytes_eq v.name n) _ _ (each_left (λ (o : Unacked). MessageAt es o.index) _ v.out h) h
 change_out es (change.Cleared n) v g h = on_if (OutIn es) (bytes_eq v.name n) _ _ tt h
 change_out es change.Forget v g h = tt
 change_out es (change.Receiver x r) v g h = h
@@ -88,7 +88,7 @@ changed_out : (es : List Entry) (b : Broker) (c : Change) → GivesMessage es c 
 changed_out es b (change.Attach n k) g h = map_out es _ (λ v. change_out es (change.Attach n k) v g) b.subs h
 changed_out es b (change.Detach c) g h = map_out es _ (λ v. change_out es (change.Detach c) v g) b.subs h
 changed_out es b (change.Permit n c k) g h = map_out es _ (λ v. change_out es (change.Permit n c k) v g) b.subs h
-changed_out es b (change.Passed n i) g h = map_out es _ (λ v. change_out es (change.Passed n i) v g) b.subs h
+changed_out es b (change.Skipped n i) g h = map_out es _ (λ v. change_out es (change.Skipped n i) v g) b.subs h
 changed_out es b (change.Given n i at) g h = map_out es _ (λ v. change_out es (change.Given n i at) v g) b.subs h
 changed_out es b (change.Cache n c) g h = map_out es _ (λ v. change_out es (change.Cache n c) v g) b.subs h
 changed_out es b (change.Acked n) g h = map_out es _ (λ v. change_out es (change.Acked n) v g) b.subs h
@@ -110,7 +110,7 @@ changes_out es b (c ∷ cs) g h = changes_out es (changed b c) cs g.1 (changed_o
 -- ---- writes
 
 same_out : (es : List Entry) (n : List ℕ) (f : Subscription → Subscription) → ((v : Subscription) → (f v).out ≡ v.out) → (v : Subscription) → OutIn es v → OutIn es (at_name n f v)
-same_out es n f same v h = on_if (OutIn es) (bytes_eq v.name n) (f v) v (subst (Each (λ (o : Outstanding). MessageAt es o.index)) (sym (same v)) h) h
+same_out es n f same v h = on_if (OutIn es) (bytes_eq v.name n) (f v) v (subst (Each (λ (o : Unacked). MessageAt es o.index)) (sym (same v)) h) h
 
 write_out : (es : List Entry) (per : ℕ) (b : Broker) (w : Write) → AllSubs (OutIn es) b → AllSubs (OutIn es) (written per b w)
 write_out es per b (write.Create n kind replicated latest) h =
@@ -120,7 +120,7 @@ write_out es per b (write.Delete n) h = each_left (OutIn es) _ b.subs h
 write_out es per b (write.Acks n is) h = map_out es _ (same_out es n _ (λ v. refl)) b.subs h
 write_out es per b (write.Seek n i) h = map_out es _ (same_out es n _ (λ v. refl)) b.subs h
 write_out es per b (write.Append e) h = h
-write_out es per b (write.SenderAck y i) h = h
+write_out es per b (write.ReplicatorAck y i) h = h
 write_out es per b (write.SessionNumber y n) h = h
 write_out es per b write.Ledger h = h
 
@@ -139,7 +139,7 @@ none_given es (c ∷ cs) h = (first c (λ m k. first_false (is_given m k c) (lis
     first (change.Attach n k) none = tt
     first (change.Detach c) none = tt
     first (change.Permit n c k) none = tt
-    first (change.Passed n i) none = tt
+    first (change.Skipped n i) none = tt
     first (change.Cache n c) none = tt
     first (change.Acked n) none = tt
     first (change.Cleared n) none = tt
@@ -158,7 +158,7 @@ shape_out s w p (Shape.Offer t x n plan within offers) = by plan offers
   where
     by : (q : Plan) → Offers (site s t x) (topic_at s w t x) (sub_name s t n) q → Each (GivesMessage (topic_at s w t x).entries) q.changes
     by q Offers.NothingToOffer = tt
-    by q (Offers.PassesBy v i e ws due is after) = (tt, (tt, tt))
+    by q (Offers.SkipsMarker v i e ws due is after) = (tt, (tt, tt))
     by q (Offers.Caches v i j e c ws due is after) = (tt, (tt, (tt, tt)))
     by q (Offers.Gives v i at e due is picked) = ((e, due.2, ap is_data is), tt)
 shape_out s w p (Shape.Idle t x within) = tt

@@ -13,7 +13,7 @@ use Rattle.world_laws.proofs.KeptRuns.AlikeWorlds.{event_alike, halt_alike, plan
 use Rattle.world_laws.proofs.KeptRuns.Loaded.{unused_sound}
 use Rattle.failover_laws.specs.Again.{gives}
 use Rattle.failover_laws.specs.Covers.{NotOfThen}
-use Rattle.failover_laws.specs.PassedOver.{HasPassed}
+use Rattle.failover_laws.specs.UpdatedTo.{HasUpdatedTo}
 use Rattle.failover_laws.specs.Since.{AfterEvent, AfterHalt, AfterRound, AfterStop, Idling, Resuming, Since, Starting, leaves, leaves_behind}
 use Rattle.failover_laws.specs.Switched.{HasAllOf}
 
@@ -95,7 +95,7 @@ pub have_alike : (s : Setup) (v v' z z' : World) (t y x : ℕ) (n : List ℕ) �
 have_alike s v v' z z' t y x n av az h =
     let bv = same_at s v v' t y av in let bz = same_at s z z' t y az in record {
       index = h.index;
-      passed = subst (λ (b : Broker). HasPassed b n x h.index) bz h.passed;
+      passed = subst (λ (b : Broker). HasUpdatedTo b n x h.index) bz h.passed;
       high = subst (λ (b : Broker). length b.entries ≤ h.index) bv h.high;
       sub = h.sub;
       here = subst (λ (b : Broker). sub_named b.subs n ≡ Some h.sub) bz h.here;

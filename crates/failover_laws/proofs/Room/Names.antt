@@ -15,15 +15,13 @@ use Rattle.world_laws.specs.SubLines.{IsSubLine, named_by}
 use Rattle.world_laws.proofs.Dispatching.SubFrames.{NamesApart}
 use Rattle.world_laws.proofs.Replicating.Effects.{Each}
 use Rattle.world_laws.proofs.Walks.Walk.{on_if}
+use Rattle.geo_base.proofs.Lists.{bytes_eq_itself}
 
 -- ---- names of a topic
 
 -- a list has a name
 abbrev pub InNames : List (List ℕ) → List ℕ → Type 0
 InNames ns n = list_any (λ m. bytes_eq m n) ns ≡ true
-
-eq_self : (n : List ℕ) → bytes_eq n n ≡ true
-eq_self n = (bytes_eq-Decides n n).1 refl
 
 any_left : (ns ms : List (List ℕ)) (n : List ℕ) → InNames ns n → InNames (ns ++ ms) n
 any_left [] ms n h = absurd (false≢true h)
@@ -34,7 +32,7 @@ any_left (m ∷ ns) ms n h = by (bytes_eq m n) h (any_left ns ms n)
     by false h ih = ih h
 
 any_last : (ns : List (List ℕ)) (n : List ℕ) → InNames (ns ++ n ∷ []) n
-any_last [] n = ap (λ (b : Bool). b || false) (eq_self n)
+any_last [] n = ap (λ (b : Bool). b || false) (bytes_eq_itself n)
 any_last (m ∷ ns) n = by (bytes_eq m n) (any_last ns n)
   where
     by : (b : Bool) → InNames (ns ++ n ∷ []) n → (b || list_any (λ k. bytes_eq k n) (ns ++ n ∷ [])) ≡ true

@@ -17,7 +17,7 @@ use Rattle.world_laws.proofs.Types.marker
 use Rattle.world_laws.proofs.Types.write
 use Rattle.geo_base.specs.Broker.{Broker, Site, changed, new_broker, no_broker, sub_named, written}
 use Rattle.geo_base.specs.Cache.{cached}
-use Rattle.geo_base.specs.Dispatcher.{given, passed_index}
+use Rattle.geo_base.specs.Dispatcher.{given, skipped_index}
 use Rattle.geo_base.specs.Forwarding.{closes, is_remote}
 use Rattle.geo_base.specs.Happening.{halts_planned, happens, stops}
 use Rattle.geo_base.specs.Laws.{ArePair}
@@ -78,7 +78,7 @@ written_names ns per b (write.Acks n is) may h = at_names ns n _ (λ v. refl) b.
 written_names ns per b (write.Seek n i) may h = at_names ns n _ (λ v. refl) b.subs h
 written_names ns per b (write.Delete n) may h = each_filter (λ (v : Subscription). InNames ns v.name) (λ (s : Subscription). not (bytes_eq s.name n)) b.subs h
 written_names ns per b (write.Append e) may h = h
-written_names ns per b (write.SenderAck y i) may h = h
+written_names ns per b (write.ReplicatorAck y i) may h = h
 written_names ns per b (write.SessionNumber y n) may h = h
 written_names ns per b write.Ledger may h = h
 
@@ -94,7 +94,7 @@ changed_names : (ns : List (List ℕ)) (b : Broker) (c : Change) → NamedIn ns 
 changed_names ns b (change.Attach n k) h = at_names ns n (attached k) (λ v. refl) b.subs h
 changed_names ns b (change.Detach c) h = map_names ns (detached c) (λ v. refl) b.subs h
 changed_names ns b (change.Permit n c k) h = at_names ns n (permitted c k) (λ v. refl) b.subs h
-changed_names ns b (change.Passed n i) h = at_names ns n (passed_index i) (λ v. refl) b.subs h
+changed_names ns b (change.Skipped n i) h = at_names ns n (skipped_index i) (λ v. refl) b.subs h
 changed_names ns b (change.Given n i at) h = at_names ns n (given i at) (λ v. refl) b.subs h
 changed_names ns b (change.Cache n c) h = at_names ns n (λ s. record s { cache = cached s.cache c }) (λ v. refl) b.subs h
 changed_names ns b (change.Acked n) h = at_names ns n after_acks (λ v. refl) b.subs h
@@ -173,7 +173,7 @@ reads_name ns h b y q known (Reads.Counts i e id answer u u' next is heard) = (t
 reads_name ns h b y q known (Reads.AsksAgain i e id answer u u' next is heard) = (tt, (tt, tt))
 reads_name ns h b y q known (Reads.Completes i e id answer u u' next is heard) = (tt, (tt, tt))
 reads_name ns h b y q known (Reads.CreatesAt i j e n told next is named) = (known i e n told next.0 next.2 is.0.1 is.1, (tt, (tt, tt)))
-reads_name ns h b y q known (Reads.PassesOver i j e n told v ws next is named after) = (tt, each_both (MayName ns) ws (write.SenderAck y i ∷ []) (updates_name ns h b _ ws after) (tt, tt))
+reads_name ns h b y q known (Reads.ActsOnUpdate i j e n told v ws next is named after) = (tt, each_both (MayName ns) ws (write.ReplicatorAck y i ∷ []) (updates_name ns h b _ ws after) (tt, tt))
 
 snaps_name : (ns : List (List ℕ)) (h : Site) (b : Broker) (q : Plan) → Snaps h b q → Each (MayName ns) q.writes
 snaps_name ns h b q Snaps.NothingToAsk = tt
@@ -182,7 +182,7 @@ snaps_name ns h b q (Snaps.Asks any none) = (tt, tt)
 offers_name : (ns : List (List ℕ)) (h : Site) (b : Broker) (n : List ℕ) (q : Plan) → Offers h b n q → Each (MayName ns) q.writes
 offers_name ns h b n q Offers.NothingToOffer = tt
 offers_name ns h b n q (Offers.Gives v i at e due is picked) = tt
-offers_name ns h b n q (Offers.PassesBy v i e ws due is after) = (tt, updates_name ns h b _ ws after)
+offers_name ns h b n q (Offers.SkipsMarker v i e ws due is after) = (tt, updates_name ns h b _ ws after)
 offers_name ns h b n q (Offers.Caches v i j e c ws due is after) = (tt, updates_name ns h b _ ws after)
 
 seeks_name : (ns : List (List ℕ)) (h : Site) (b : Broker) (n : List ℕ) (to : Option Position) (q : Plan) → Seeks h b n to q → Each (MayName ns) q.writes

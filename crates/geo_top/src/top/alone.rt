@@ -19,7 +19,7 @@ use std::alloc::Global;
 /// The whole program but for the words of `live`: it reads all of the source, where the words have an input, and writes all that
 /// [`answer`] answers to these bytes to the sink. It takes no runtime and starts no thread.
 ///
-/// The whole output is made before its first byte is written. Of the refusals, a fault of the source comes behind words that are no
+/// The whole output is made before its first byte is written. Of the refusals, a fault of the source comes after words that are no
 /// command, and before all that is told from the input; a fault of the sink comes last.
 pub fn geo_alone<S: Source, K: Sink>(
     alloc: Global,

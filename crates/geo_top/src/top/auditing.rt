@@ -1,4 +1,4 @@
-//! The answer to a trace that stands behind a script's declarations.
+//! The answer to a trace that stands after a script's declarations.
 ghost use Rattle.std.specs.Prelude.{◌≡◌, ◌≤◌, IfOk, length};
 ghost use Rattle.audit.specs.AuditOf.{audit_by};
 ghost use Rattle.geo_top.specs.Audits.{audit_line};
@@ -10,7 +10,7 @@ use crate::top::status::Status;
 use audit::{AuditFault, Strictness, audit};
 use geo_base::limits::INPUT_BYTES;
 use geo_base::{Blob, Memory};
-use script_inputs::trace_start;
+use script_generator::trace_start;
 use script_text::{Scenario, ScriptFault, read_script};
 use std::alloc::Global;
 

@@ -23,10 +23,10 @@ use std::alloc::Global;
 /// input is a script, and the output the report of its run; for `compact HORIZON` it is the compacted view of each topic at the run's
 /// end; for `tiered KEEP` the entries of each topic there, read back once its closed ledgers but the last ones moved to a tier; for
 /// `trace` each event of the run with what it wrote durably; for `steps` each step with what it changed of a report; for `save` it is the
-/// state file of the run and a stop behind it; for `resume` the input is a state file and a schedule behind it, and the output the report
+/// state file of the run and a stop after it; for `resume` the input is a state file and a schedule after it, and the output the report
 /// of the run that goes on from there, and for `steps from` its steps; for `lost CLUSTER` what is lost if the cluster goes at the run's
-/// end, with `numbers` behind it without the messages' names, and with `from` for the input of `resume`; for `audit`, and for `audit whole`, which judges gaps as well, the
-/// input is what a script declares and a trace behind it, and the output how many events the trace tells; for `big NUMBER` it is the
+/// end, with `numbers` after it without the messages' names, and with `from` for the input of `resume`; for `audit`, and for `audit whole`, which judges gaps as well, the
+/// input is what a script declares and a trace after it, and the output how many events the trace tells; for `big NUMBER` it is the
 /// summary of the run that the number generates, and for `steps big NUMBER` its steps. Else, and where it refuses, it is one line.
 ///
 /// It takes the input, and gives the memory of a script back before the run, but for `steps`, whose lines it cites. The first of these

@@ -61,15 +61,15 @@ pub enum Reading<'a> {
     Script(Shown),
     /// A script is run, everything is stopped, and the state file of what is left is written.
     Save,
-    /// A run goes on from a state file with the steps behind it, and something of it is shown.
+    /// A run goes on from a state file with the steps after it, and something of it is shown.
     Resume(GoingOn),
-    /// The trace of a run that stands behind a script's declarations is judged, by how strictly.
+    /// The trace of a run that stands after a script's declarations is judged, by how strictly.
     Audit(Strictness),
     /// A script is run, and each of its steps is shown with what it changed of a report.
     Steps,
     /// A script is run, and of the world at its end it is told what is lost if a cluster goes, with the messages' names or without.
     Lost(ClusterWord<'a>, bool),
-    /// The same, with the names, of a run that goes on from a state file with the steps behind it.
+    /// The same, with the names, of a run that goes on from a state file with the steps after it.
     LostOn(ClusterWord<'a>),
 }
 
@@ -166,7 +166,7 @@ impl<'a> Command<'a> {
         Command::Reads(Reading::Lost(ClusterWord { word: cluster }, with_names))
     }
 
-    /// The same, as the word behind the cluster's says.
+    /// The same, as the word after the cluster's says.
     fn lost_with(cluster: &'a Word, how: &Word) -> Option<Command<'a>>
         ensures { result ≡ lost_with cluster.entry.now how.now }
     {
@@ -235,7 +235,7 @@ impl<'a> Command<'a> {
         }
     }
 
-    /// The audit of the word behind `audit`.
+    /// The audit of the word after `audit`.
     fn audit(word: &Word) -> Option<Command<'a>>
         ensures { result ≡ audit_of_word word.now }
     {

@@ -22,14 +22,14 @@ pub fn number_of(clusters: &[ClusterName], name: &[u8]) -> Option<u32>
     ensures number { result ≡ (if is_among clusters.now name.now then Some (number_in clusters.now name.now) else None) }
     ensures within { IfSome result (λ k. k < length clusters.now) }
 {
-    match place_of(clusters, name) {
+    match broker_ref_of(clusters, name) {
         Some(place) => Some(place as u32),
         None => None,
     }
 }
 
 /// The first place of a name.
-fn place_of(clusters: &[ClusterName], name: &[u8]) -> Option<usize>
+fn broker_ref_of(clusters: &[ClusterName], name: &[u8]) -> Option<usize>
     ensures { result ≡ position (λ n. bytes_eq n name.now) clusters.now }
 {
     clusters
@@ -37,7 +37,7 @@ fn place_of(clusters: &[ClusterName], name: &[u8]) -> Option<usize>
         .position(|known| known.as_str().as_bytes() == name)
 }
 
-/// The number of the line behind the last, counted from 1.
+/// The number of the line after the last, counted from 1.
 #[tactic(auto, using(crate::proofs::Losing::behind_cut, crate::proofs::Losing::behind_ended))]
 pub fn line_behind(bytes: &[u8]) -> u64
     requires { length bytes.now ≤ INPUT_BYTES }
@@ -59,7 +59,7 @@ fn line_ends(bytes: &[u8]) -> u64
     ended
 }
 
-/// One line more, behind a line feed.
+/// One line more, after a line feed.
 fn with_end(ended: u64, byte: u8) -> u64
     requires { ended + 1 < 2 ^ 64 }
     ensures is { result ≡ with_end ended byte }
@@ -75,7 +75,7 @@ fn is_cut(bytes: &[u8]) -> bool
     !bytes.is_empty() && bytes[bytes.len() - 1] != b'\n'
 }
 
-/// The refusal of a name that no cluster has. It stands behind the last line, whose next number `line` is. An `Err` is want of memory.
+/// The refusal of a name that no cluster has. It stands after the last line, whose next number `line` is. An `Err` is want of memory.
 pub fn undeclared(alloc: Global, line: u64) -> Result<Answer, Memory>
     ensures { IfOk result (λ a. a ≡ refused (status.BadScript line 15)) }
 {

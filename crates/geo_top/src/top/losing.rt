@@ -3,7 +3,7 @@ ghost use Rattle.std.specs.Prelude.{◌≡◌, ◌<◌, ◌≤◌, ◌+◌, ℕ,
 ghost use Rattle.geo_base.specs.Run.{run};
 ghost use Rattle.geo_top.specs.Founded.{IsAccepted};
 ghost use Rattle.geo_top.specs.Losing.{declaring, declaring_on};
-ghost use Rattle.geo_top.specs.Outputs.{IsAnswerToLosingFile, answer_to_losing, answer_to_losing_on, passed_limit, resumed_limit, unless_passed};
+ghost use Rattle.geo_top.specs.Outputs.{IsAnswerToLosingFile, answer_to_losing, answer_to_losing_on, exceeded_limit, resumed_limit, unless_exceeded};
 ghost use Rattle.geo_top.specs.States.{resumed};
 ghost use Rattle.loss_laws.specs.LostLines.{lost_text};
 ghost use Rattle.script_text.specs.Lines.{lines_of};
@@ -53,7 +53,7 @@ pub fn answer_to_losing(
     }
 }
 
-/// The answer to a script that is read; `line` is the number of the line behind its last one.
+/// The answer to a script that is read; `line` is the number of the line after its last one.
 fn losing_scenario(
     alloc: Global,
     cluster: &[u8],
@@ -80,7 +80,7 @@ fn losing_scenario(
 #[tactic(auto, using(crate::proofs::Losing::told_whole, crate::proofs::Losing::told_refused))]
 fn told(alloc: Global, scenario: &Scenario, gone: Gone) -> Result<Answer, Memory>
     requires { gone.cluster < length scenario.now.setup.clusters }
-    ensures { IfOk result (λ a. a ≡ unless_passed (lost_text gone.with_names scenario.now.setup (run scenario.now.setup scenario.now.steps) gone.cluster) (passed_limit scenario.now)) }
+    ensures { IfOk result (λ a. a ≡ unless_exceeded (lost_text gone.with_names scenario.now.setup (run scenario.now.setup scenario.now.steps) gone.cluster) (exceeded_limit scenario.now)) }
 {
     match lost_of_run(alloc, scenario, gone) {
         Ok(bytes) => Ok(Answer {
@@ -96,8 +96,8 @@ fn told(alloc: Global, scenario: &Scenario, gone: Gone) -> Result<Answer, Memory
 fn lost_of_run(alloc: Global, scenario: &Scenario, gone: Gone) -> Result<Blob, RunFault>
     requires { gone.cluster < length scenario.now.setup.clusters }
     ensures done { IfOk result (λ bytes. bytes ≡ lost_text gone.with_names scenario.now.setup (run scenario.now.setup scenario.now.steps) gone.cluster) }
-    ensures within { OnOk result (passed_limit scenario.now ≡ None) }
-    ensures large { (limit : ℕ) → result ≡ Err (RunFault.TooLarge limit) → passed_limit scenario.now ≡ Some limit }
+    ensures within { OnOk result (exceeded_limit scenario.now ≡ None) }
+    ensures large { (limit : ℕ) → result ≡ Err (RunFault.TooLarge limit) → exceeded_limit scenario.now ≡ Some limit }
 {
     let world = run_script(alloc, scenario)?;
     let bytes = lost_lines(alloc, scenario, &world, gone);
@@ -105,7 +105,7 @@ fn lost_of_run(alloc: Global, scenario: &Scenario, gone: Gone) -> Result<Blob, R
     Ok(bytes?)
 }
 
-/// The answer to a state file and the lines behind it.
+/// The answer to a state file and the lines after it.
 pub fn answer_to_losing_on(alloc: Global, cluster: &[u8], bytes: &[u8]) -> Result<Answer, Memory>
     requires { length bytes.now ≤ INPUT_BYTES }
     ensures { IfOk result (IsAnswerToLosingFile cluster.now bytes.now) }
@@ -124,7 +124,7 @@ pub fn answer_to_losing_on(alloc: Global, cluster: &[u8], bytes: &[u8]) -> Resul
     }
 }
 
-/// The answer to a state and the lines behind it.
+/// The answer to a state and the lines after it.
 fn losing_behind(
     alloc: Global,
     cluster: &[u8],
@@ -154,7 +154,7 @@ fn losing_behind(
     }
 }
 
-/// The answer to a state and the steps behind it; `line` is the number of the line behind their last one.
+/// The answer to a state and the steps after it; `line` is the number of the line after their last one.
 fn losing_saved(
     alloc: Global,
     cluster: &[u8],
@@ -188,7 +188,7 @@ fn told_on(alloc: Global, saved: Saved, steps: &StepList, gone: Gone) -> Result<
     requires known { IsKnownState (state_of saved) }
     requires steps { All (IsStep (state_of saved).scenario.setup) steps.now }
     requires cluster { gone.cluster < length (state_of saved).scenario.setup.clusters }
-    ensures { IfOk result (λ a. a ≡ unless_passed (lost_text gone.with_names (state_of saved).scenario.setup (resumed (state_of saved) steps.now) gone.cluster) (resumed_limit (state_of saved) steps.now)) }
+    ensures { IfOk result (λ a. a ≡ unless_exceeded (lost_text gone.with_names (state_of saved).scenario.setup (resumed (state_of saved) steps.now) gone.cluster) (resumed_limit (state_of saved) steps.now)) }
 {
     match lost_of_resumed(alloc, saved, steps, gone) {
         Ok(bytes) => Ok(Answer {
@@ -200,7 +200,7 @@ fn told_on(alloc: Global, saved: Saved, steps: &StepList, gone: Gone) -> Result<
     }
 }
 
-/// What is lost of the world behind the steps that go on from a state.
+/// What is lost of the world after the steps that go on from a state.
 fn lost_of_resumed(
     alloc: Global,
     saved: Saved,

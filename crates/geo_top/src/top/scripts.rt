@@ -2,8 +2,8 @@
 ghost use Rattle.std.specs.Prelude.{◌≡◌, ◌≤◌, ℕ, Err, IfOk, None, OnOk, Some, length};
 ghost use Rattle.geo_top.specs.Finished.{IsFinished};
 ghost use Rattle.geo_top.specs.Founded.{IsAccepted};
-ghost use Rattle.geo_top.specs.Outputs.{answer_to, answer_to_big, answer_to_run, compacted_of, output_of, passed_limit, report_of, summary_of, tiered_of};
-ghost use Rattle.script_inputs.specs.Generated.{generated_run};
+ghost use Rattle.geo_top.specs.Outputs.{answer_to, answer_to_big, answer_to_run, compacted_of, output_of, exceeded_limit, report_of, summary_of, tiered_of};
+ghost use Rattle.script_generator.specs.Generated.{generated_run};
 ghost use Rattle.script_text.specs.Rules.{script_of};
 ghost use Rattle.script_text.specs.Scenario.{IsScenario};
 
@@ -19,7 +19,7 @@ use crate::traced::trace_script;
 use crate::world_report::report;
 use geo_base::limits::INPUT_BYTES;
 use geo_base::{Blob, Memory};
-use script_inputs::generate;
+use script_generator::generate;
 use script_text::{Scenario, ScriptFault, read_script};
 use std::alloc::Global;
 use world::{RunFault, World};
@@ -47,7 +47,7 @@ pub fn answer_to_script(alloc: Global, shown: Shown, bytes: Blob) -> Result<Answ
 #[tactic(auto, using(crate::proofs::Finishing::shown_whole, crate::proofs::Finishing::refused_run))]
 fn answer_to_scenario(alloc: Global, shown: Shown, scenario: &Scenario) -> Result<Answer, Memory>
     requires { IsScenario scenario.now }
-    ensures { IfOk result (λ a. a ≡ answer_to_run shown scenario.now (passed_limit scenario.now)) }
+    ensures { IfOk result (λ a. a ≡ answer_to_run shown scenario.now (exceeded_limit scenario.now)) }
 {
     match output(alloc, shown, scenario) {
         Ok(bytes) => Ok(Answer {
@@ -64,8 +64,8 @@ fn answer_to_scenario(alloc: Global, shown: Shown, scenario: &Scenario) -> Resul
 fn output(alloc: Global, shown: Shown, scenario: &Scenario) -> Result<Blob, RunFault>
     requires { IsScenario scenario.now }
     ensures done { IfOk result (λ bytes. bytes ≡ output_of shown scenario.now) }
-    ensures within { OnOk result (passed_limit scenario.now ≡ None) }
-    ensures large { (limit : ℕ) → result ≡ Err (RunFault.TooLarge limit) → passed_limit scenario.now ≡ Some limit }
+    ensures within { OnOk result (exceeded_limit scenario.now ≡ None) }
+    ensures large { (limit : ℕ) → result ≡ Err (RunFault.TooLarge limit) → exceeded_limit scenario.now ≡ Some limit }
 {
     match shown {
         Shown::Report => reported(alloc, scenario),
@@ -78,8 +78,8 @@ fn output(alloc: Global, shown: Shown, scenario: &Scenario) -> Result<Blob, RunF
 /// The report of the world at the end of a script's run.
 fn reported(alloc: Global, scenario: &Scenario) -> Result<Blob, RunFault>
     ensures done { IfOk result (λ bytes. bytes ≡ report_of scenario.now) }
-    ensures within { OnOk result (passed_limit scenario.now ≡ None) }
-    ensures large { (limit : ℕ) → result ≡ Err (RunFault.TooLarge limit) → passed_limit scenario.now ≡ Some limit }
+    ensures within { OnOk result (exceeded_limit scenario.now ≡ None) }
+    ensures large { (limit : ℕ) → result ≡ Err (RunFault.TooLarge limit) → exceeded_limit scenario.now ≡ Some limit }
 {
     let world = run_script(alloc, scenario)?;
     let bytes = report(alloc, scenario, &world);
@@ -90,8 +90,8 @@ fn reported(alloc: Global, scenario: &Scenario) -> Result<Blob, RunFault>
 /// The compacted views of the world at the end of a script's run.
 fn compacted(alloc: Global, scenario: &Scenario, horizon: u64) -> Result<Blob, RunFault>
     ensures done { IfOk result (λ bytes. bytes ≡ compacted_of horizon scenario.now) }
-    ensures within { OnOk result (passed_limit scenario.now ≡ None) }
-    ensures large { (limit : ℕ) → result ≡ Err (RunFault.TooLarge limit) → passed_limit scenario.now ≡ Some limit }
+    ensures within { OnOk result (exceeded_limit scenario.now ≡ None) }
+    ensures large { (limit : ℕ) → result ≡ Err (RunFault.TooLarge limit) → exceeded_limit scenario.now ≡ Some limit }
 {
     let world = run_script(alloc, scenario)?;
     let bytes = compacted_views(alloc, scenario, &world, horizon);
@@ -103,8 +103,8 @@ fn compacted(alloc: Global, scenario: &Scenario, horizon: u64) -> Result<Blob, R
 fn tiered(alloc: Global, scenario: &Scenario, keep: u64) -> Result<Blob, RunFault>
     requires { IsScenario scenario.now }
     ensures done { IfOk result (λ bytes. bytes ≡ tiered_of keep scenario.now) }
-    ensures within { OnOk result (passed_limit scenario.now ≡ None) }
-    ensures large { (limit : ℕ) → result ≡ Err (RunFault.TooLarge limit) → passed_limit scenario.now ≡ Some limit }
+    ensures within { OnOk result (exceeded_limit scenario.now ≡ None) }
+    ensures large { (limit : ℕ) → result ≡ Err (RunFault.TooLarge limit) → exceeded_limit scenario.now ≡ Some limit }
 {
     let world = run_script(alloc, scenario)?;
     let bytes = tiered_topics(alloc, scenario, &world, keep);
@@ -142,8 +142,8 @@ fn answer_to_its_run(alloc: Global, number: u32, scenario: &Scenario) -> Result<
 fn summed_up(alloc: Global, number: u32, scenario: &Scenario) -> Result<Blob, RunFault>
     requires { scenario.now ≡ generated_run number }
     ensures done { IfOk result (λ bytes. bytes ≡ summary_of number) }
-    ensures within { OnOk result (passed_limit scenario.now ≡ None) }
-    ensures large { (limit : ℕ) → result ≡ Err (RunFault.TooLarge limit) → passed_limit scenario.now ≡ Some limit }
+    ensures within { OnOk result (exceeded_limit scenario.now ≡ None) }
+    ensures large { (limit : ℕ) → result ≡ Err (RunFault.TooLarge limit) → exceeded_limit scenario.now ≡ Some limit }
 {
     let world = run_script(alloc, scenario)?;
     let bytes = summary(alloc, number, scenario, &world);

@@ -37,7 +37,7 @@ pub fn answer_to_saving(alloc: Global, bytes: Blob) -> Result<Answer, Memory>
     }
 }
 
-/// The state file of a script's run, or the limit that the run or the stop behind it passes.
+/// The state file of a script's run, or the limit that the run or the stop after it passes.
 #[tactic(auto, using(crate::proofs::Saving::saved_whole, crate::proofs::Saving::saved_refused))]
 fn saved_answer(alloc: Global, scenario: Scenario) -> Result<Answer, Memory>
     ensures { IfOk result (λ a. a ≡ answer_to_saved scenario) }
@@ -52,7 +52,7 @@ fn saved_answer(alloc: Global, scenario: Scenario) -> Result<Answer, Memory>
     }
 }
 
-/// The answer to a state file and the lines behind it.
+/// The answer to a state file and the lines after it.
 pub fn answer_to_file(alloc: Global, shown: GoingOn, bytes: &[u8]) -> Result<Answer, Memory>
     requires { length bytes.now ≤ INPUT_BYTES }
     ensures { IfOk result (IsAnswerToFile shown bytes.now) }
@@ -71,7 +71,7 @@ pub fn answer_to_file(alloc: Global, shown: GoingOn, bytes: &[u8]) -> Result<Ans
     }
 }
 
-/// The bytes behind so many.
+/// The bytes after so many.
 pub fn behind(bytes: &[u8], used: usize) -> &[u8]
     ensures behind { result.now ≡ drop used bytes.now }
     ensures shorter { length result.now ≤ length bytes.now }
@@ -83,7 +83,7 @@ pub fn behind(bytes: &[u8], used: usize) -> &[u8]
     }
 }
 
-/// The answer to a state and the lines behind it.
+/// The answer to a state and the lines after it.
 fn going_on_answer(
     alloc: Global,
     shown: GoingOn,
@@ -150,7 +150,7 @@ fn step_on(alloc: Global, saved: Saved, steps: &StepList, lines: &[u8]) -> Resul
     }
 }
 
-/// The report of the world behind the steps that go on from a state, or the limit that they pass.
+/// The report of the world after the steps that go on from a state, or the limit that they pass.
 fn reported_on(alloc: Global, saved: Saved, steps: &StepList) -> Result<Blob, RunFault>
     requires known { IsKnownState (state_of saved) }
     requires steps { All (IsStep (state_of saved).scenario.setup) steps.now }

@@ -10,7 +10,7 @@ pub enum Status {
     /// The words are no command.
     Usage,
     /// The first line that breaks a rule, counted from 1, and the lowest rule that it breaks: a line of the script, or of those
-    /// behind a state.
+    /// after a state.
     BadScript { line: u64, rule: u32 },
     /// The source failed.
     ReadFault,

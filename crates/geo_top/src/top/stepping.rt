@@ -2,7 +2,7 @@
 ghost use Rattle.std.specs.Prelude.{◌≡◌, ◌≤◌, Ok, IfOk, OnOk, length};
 ghost use Rattle.geo_top.specs.Founded.{IsAccepted};
 ghost use Rattle.geo_top.specs.Outputs.{answer_to_big_steps, answer_to_steps};
-ghost use Rattle.script_inputs.specs.Generated.{generated_run};
+ghost use Rattle.script_generator.specs.Generated.{generated_run};
 ghost use Rattle.script_text.specs.Rules.{script_of};
 
 use crate::stepped::{steps_by_schedule, steps_of_script};

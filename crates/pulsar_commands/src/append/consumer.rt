@@ -3,7 +3,7 @@
 ghost use Rattle.std.specs.Prelude.{◌≡◌, OnOk};
 ghost use Rattle.pulsar_commands.specs.declared.command.Command.TheVariants as command;
 ghost use Rattle.pulsar_commands.specs.Parts.{parts, kind_of, sub_number, ack_number};
-ghost use Rattle.pulsar_commands.specs.Senders.{IsOfConsumer};
+ghost use Rattle.pulsar_commands.specs.Replicators.{IsOfConsumer};
 ghost use Rattle.pulsar_commands.specs.Canonical.{Writes};
 
 use crate::command::Command;

@@ -4,7 +4,7 @@ ghost use Rattle.std.specs.Prelude.{OnOk, OnErr};
 ghost use Rattle.pb_fields.specs.Canonical.{Extends};
 ghost use Rattle.pulsar_commands.specs.declared.command.Command.TheVariants as command;
 ghost use Rattle.pulsar_commands.specs.Parts.{parts, kind_of};
-ghost use Rattle.pulsar_commands.specs.Senders.{IsOfProducer};
+ghost use Rattle.pulsar_commands.specs.Replicators.{IsOfProducer};
 ghost use Rattle.pulsar_commands.specs.Canonical.{Writes};
 
 use crate::command::Command;

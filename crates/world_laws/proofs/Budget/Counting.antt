@@ -1,4 +1,4 @@
--- What an appended entry adds to the weight of its broker: so much for each sender, of which there is one for each other cluster.
+-- What an appended entry adds to the weight of its broker: so much for each replicator, of which there is one for each other cluster.
 use Rattle.std.proofs.Common.{◌≡◌, ℕ, suc, ◌+◌, ◌-◌, ◌*◌, ◌<◌, ◌≤◌, Bool, true, false, List, [], ◌∷◌, ◌++◌, refl, sym, ap, ◌∙◌, ◌==◌, arith}
 use Rattle.std.specs.Prelude.{if◌then◌else◌, ◌&&◌, not, nat_lt}
 use Rattle.std.proofs.Math.Nat.{mul-suc}
@@ -7,7 +7,7 @@ use Rattle.std.proofs.lemmas.Bool.Decides.{nat_tests}
 use Rattle.std.proofs.lemmas.Nat.{mul-le}
 use Rattle.world_laws.proofs.Types.{Entry}
 use Rattle.geo_base.specs.Entry.{goes_to, is_outbound}
-use Rattle.geo_base.specs.Sender.{Sender}
+use Rattle.geo_base.specs.Replicator.{Replicator}
 use Rattle.world_laws.proofs.Budget.Tails.{at_add, at_le, from_push, sum_at}
 use Rattle.world_laws.proofs.Walks.Walk.{left, on_if, on_test, right}
 use Rattle.world_laws.proofs.Budget.Weights.{arrives, asking, behind, dear, is_peer, is_request, unread}
@@ -42,11 +42,11 @@ peer_step n x c i rest lt le false h =
     let more = mul-le c (later n x (suc i)) c (later n x i) (omega arith) (none_later n x i (nat_lt x i) (nat_lt x (suc i)) refl refl) in omega (arith, le, more)
 
 -- so much for each
-each_from : (n x c i : ℕ) → x < n → (ss : List Sender) → sum_at (λ y (s : Sender). if is_peer n x y then c else 0) i ss ≤ c * later n x i
+each_from : (n x c i : ℕ) → x < n → (ss : List Replicator) → sum_at (λ y (s : Replicator). if is_peer n x y then c else 0) i ss ≤ c * later n x i
 each_from n x c i lt [] = omega arith
 each_from n x c i lt (s ∷ ss) = peer_step n x c i _ lt (each_from n x c (suc i) lt ss) (is_peer n x i) refl
 
-pub each_peer : (n x c : ℕ) → x < n → (ss : List Sender) → sum_at (λ y (s : Sender). if is_peer n x y then c else 0) 0 ss ≤ c * (n - 1)
+pub each_peer : (n x c : ℕ) → x < n → (ss : List Replicator) → sum_at (λ y (s : Replicator). if is_peer n x y then c else 0) 0 ss ≤ c * (n - 1)
 each_peer n x c lt ss =
     let all : later n x 0 ≤ n - 1 = on_test (λ (j : ℕ). j ≤ n - 1) (nat_lt x 0) (n - 0) (n - 1 - 0) (λ h. absurd (grind (arith, nat_tests, h))) (λ _. omega arith) in
     omega (arith, each_from n x c 0 lt ss, mul-le c (later n x 0) c (n - 1) (omega arith) all)
@@ -62,30 +62,30 @@ one_step o c i rest false true false h k l le = absurd (grind (arith, nat_tests,
 one_step o c i rest false false true h k l le = omega (arith, le)
 one_step o c i rest false false false h k l le = omega (arith, le)
 
-one_from : (o c i : ℕ) (ss : List Sender) → sum_at (λ y (s : Sender). if o == y then c else 0) i ss ≤ (if nat_lt o i then 0 else c)
+one_from : (o c i : ℕ) (ss : List Replicator) → sum_at (λ y (s : Replicator). if o == y then c else 0) i ss ≤ (if nat_lt o i then 0 else c)
 one_from o c i [] = omega arith
 one_from o c i (s ∷ ss) = one_step o c i _ (o == i) (nat_lt o i) (nat_lt o (suc i)) refl refl refl (one_from o c (suc i) ss)
 
-one_at : (o c : ℕ) (ss : List Sender) → sum_at (λ y (s : Sender). if o == y then c else 0) 0 ss ≤ c
+one_at : (o c : ℕ) (ss : List Replicator) → sum_at (λ y (s : Replicator). if o == y then c else 0) 0 ss ≤ c
 one_at o c ss = let most : (if nat_lt o 0 then 0 else c) ≤ c = on_if (λ (j : ℕ). j ≤ c) (nat_lt o 0) 0 c (omega arith) (omega arith) in omega (arith, one_from o c 0 ss, most)
 
--- what an entry weighs for all senders that have not read it
-abbrev pub for_all : ℕ → ℕ → Entry → List Sender → ℕ
-for_all n x e ss = sum_at (λ y (s : Sender). if is_peer n x y then unread (n - 1) x y e else 0) 0 ss
+-- what an entry weighs for all replicators that have not read it
+abbrev pub for_all : ℕ → ℕ → Entry → List Replicator → ℕ
+for_all n x e ss = sum_at (λ y (s : Replicator). if is_peer n x y then unread (n - 1) x y e else 0) 0 ss
 
 push_one : (b : Bool) (p q u : ℕ) → p ≤ q + u → (if b then p else 0) ≤ (if b then q else 0) + (if b then u else 0)
 push_one true p q u h = h
 push_one false p q u h = omega arith
 
-pub pushed_weight : (n x : ℕ) (es : List Entry) (e : Entry) (ss : List Sender)
+pub pushed_weight : (n x : ℕ) (es : List Entry) (e : Entry) (ss : List Replicator)
     → sum_at (behind n x (es ++ e ∷ [])) 0 ss ≤ sum_at (behind n x es) 0 ss + for_all n x e ss
 pushed_weight n x es e ss =
     let each =
-    at_le (behind n x (es ++ e ∷ [])) (λ y (s : Sender). behind n x es y s + (if is_peer n x y then unread (n - 1) x y e else 0))
+    at_le (behind n x (es ++ e ∷ [])) (λ y (s : Replicator). behind n x es y s + (if is_peer n x y then unread (n - 1) x y e else 0))
     (λ y s. push_one (is_peer n x y) _ _ _ (from_push (unread (n - 1) x y) s.read_index es e)) 0 ss in
-    let all = at_add (behind n x es) (λ y (s : Sender). if is_peer n x y then unread (n - 1) x y e else 0) 0 ss in omega (arith, each, all)
+    let all = at_add (behind n x es) (λ y (s : Replicator). if is_peer n x y then unread (n - 1) x y e else 0) 0 ss in omega (arith, each, all)
 
--- the most that an entry weighs for one sender
+-- the most that an entry weighs for one replicator
 abbrev pub request_part : ℕ → Entry → ℕ
 request_part m e = if is_request e.content then dear m else 0
 
@@ -102,22 +102,22 @@ at_most true p q h = h
 at_most false p q h = omega arith
 
 -- and for all
-for_all_most : (n x : ℕ) (e : Entry) (ss : List Sender) → x < n → for_all n x e ss ≤ (3 + (n - 1) + request_part (n - 1) e) * (n - 1)
+for_all_most : (n x : ℕ) (e : Entry) (ss : List Replicator) → x < n → for_all n x e ss ≤ (3 + (n - 1) + request_part (n - 1) e) * (n - 1)
 for_all_most n x e ss lt =
     let c : ℕ = 3 + (n - 1) + request_part (n - 1) e in
     let each =
-    at_le (λ y (s : Sender). if is_peer n x y then unread (n - 1) x y e else 0) (λ y (s : Sender). if is_peer n x y then c else 0)
+    at_le (λ y (s : Replicator). if is_peer n x y then unread (n - 1) x y e else 0) (λ y (s : Replicator). if is_peer n x y then c else 0)
     (λ y s. at_most (is_peer n x y) (unread (n - 1) x y e) c (unread_most (n - 1) x y e)) 0 ss in
     omega (arith, each, each_peer n x c lt ss)
 
-pub plain_cost : (n x : ℕ) (e : Entry) (ss : List Sender) → x < n → is_request e.content ≡ false → for_all n x e ss ≤ dear (n - 1)
+pub plain_cost : (n x : ℕ) (e : Entry) (ss : List Replicator) → x < n → is_request e.content ≡ false → for_all n x e ss ≤ dear (n - 1)
 unfolding dear
 plain_cost n x e ss lt plain =
     let m : ℕ = n - 1 in
     let d : 3 + m + request_part m e ≡ 3 + m = let z = ap (λ (b : Bool). if b then dear m else 0) plain in omega (arith, z) in
     let c = ap (λ (k : ℕ). k * m) d in omega (arith, for_all_most n x e ss lt, c)
 
-pub request_cost : (n x : ℕ) (e : Entry) (ss : List Sender) → x < n → is_request e.content ≡ true → for_all n x e ss ≤ asking (n - 1)
+pub request_cost : (n x : ℕ) (e : Entry) (ss : List Replicator) → x < n → is_request e.content ≡ true → for_all n x e ss ≤ asking (n - 1)
 unfolding asking
 request_cost n x e ss lt asks =
     let m : ℕ = n - 1 in
@@ -131,13 +131,13 @@ came_one false true true m d h = omega arith
 came_one false false true m d h = omega arith
 came_one false b false m d h = omega arith
 
-pub came_cost : (n x : ℕ) (e : Entry) (ss : List Sender) → x < n → (e.ident.origin == x) ≡ false → for_all n x e ss ≤ arrives (n - 1) e.content
+pub came_cost : (n x : ℕ) (e : Entry) (ss : List Replicator) → x < n → (e.ident.origin == x) ≡ false → for_all n x e ss ≤ arrives (n - 1) e.content
 came_cost n x e ss lt other =
     let m : ℕ = n - 1 in
     let d : ℕ = request_part m e in
     let each =
-    at_le (λ y (s : Sender). if is_peer n x y then unread m x y e else 0)
-    (λ y (s : Sender). (if is_peer n x y then 1 else 0) + (if e.ident.origin == y then d else 0))
+    at_le (λ y (s : Replicator). if is_peer n x y then unread m x y e else 0)
+    (λ y (s : Replicator). (if is_peer n x y then 1 else 0) + (if e.ident.origin == y then d else 0))
     (λ y s. came_one (is_outbound x y e) (e.ident.origin == y) (is_peer n x y) m d (ap (λ (b : Bool). b && goes_to y e.to) other)) 0 ss in
-    let all = at_add (λ y (s : Sender). if is_peer n x y then 1 else 0) (λ y (s : Sender). if e.ident.origin == y then d else 0) 0 ss in
+    let all = at_add (λ y (s : Replicator). if is_peer n x y then 1 else 0) (λ y (s : Replicator). if e.ident.origin == y then d else 0) 0 ss in
     omega (arith, each, all, each_peer n x 1 lt ss, one_at e.ident.origin d ss)

@@ -9,7 +9,7 @@ use Rattle.std.proofs.lemmas.Nat.{mul-le}
 use Rattle.world_laws.proofs.Types.{Event}
 use Rattle.world_laws.proofs.Types.event
 use Rattle.world_laws.proofs.Types.fate
-use Rattle.geo_base.specs.Broker.{no_broker, sender_at}
+use Rattle.geo_base.specs.Broker.{no_broker, replicator_at}
 use Rattle.geo_base.specs.Forwarding.{is_remote, reset, resets}
 use Rattle.geo_base.specs.Happening.{broker_does, does_planned, happens}
 use Rattle.geo_base.specs.Laws.{BetweenEvents, SettlesInTime}
@@ -45,10 +45,10 @@ reset_at : (s : Setup) (w : World) (t x y : ℕ)
 unfolding reset broker_does
 reset_at s w t x y =
     on_if (λ (p : Plan). WasReset s 1 w (broker_does s w (record { topic = t; cluster = x; takes = None; plan = p }))) (is_remote (site s t x) y)
-    (resets (site s t x) y ((sender_at (topic_at s w t x) y).session + 1)) idle_plan
+    (resets (site s t x) y ((replicator_at (topic_at s w t x) y).session + 1)) idle_plan
     (record {
       waiting = at_same (λ j b. waiting_of b) no_broker 0 (node s t x) w.brokers _ (λ j. refl);
-      links = delivered_weight s (length s.clusters - 1) t x _ (resets (site s t x) y ((sender_at (topic_at s w t x) y).session + 1)).sent w.links;
+      links = delivered_weight s (length s.clusters - 1) t x _ (resets (site s t x) y ((replicator_at (topic_at s w t x) y).session + 1)).sent w.links;
       rounds = refl;
     })
     (not_reset s w (w.idle + 1))
@@ -95,7 +95,7 @@ pairs_most s =
     let wide = length-range_with_len 0 n in
     let e = ap (λ (k : ℕ). k * k * length ts) wide ∙ ap (λ (k : ℕ). n * n * k) (length-range_with_len 0 (length s.topics)) in omega (arith, e, pairs_of_most ts xs)
 
--- the weight behind the resets is within the budget before them
+-- the weight after the resets is within the budget before them
 within_shares : (c waiting forward back topics brokers links f k p : ℕ) → brokers ≤ c * waiting → links ≤ f + k + (p + p) → f ≤ c * forward → k ≤ c * back
     → p + p ≤ c * topics → brokers + links ≤ c * (waiting + (forward + (back + topics)))
 within_shares c waiting forward back topics brokers links f k p a b d e g =

@@ -1,6 +1,6 @@
 -- Rounds end: where each event of a round that is not idle lowers a weight, settling ends within the weight, in a quiet world.
 use Rattle.std.proofs.Common.{◌≡◌, ℕ, zero, suc, ◌+◌, ◌<◌, ◌≤◌, Bool, true, false, List, [], ◌∷◌, refl, sym, ap, subst, ◌∙◌, ◌==◌, arith}
-use Rattle.std.specs.Prelude.{None, ◌||◌, ◌&&◌, is_some}
+use Rattle.std.specs.Prelude.{None, ◌||◌, is_some}
 use Rattle.std.specs.List.{list_all}
 use Rattle.std.proofs.lemmas.Bool.{eqb-true, eq-eqb, false≢true}
 use Rattle.world_laws.proofs.Types.{Event}
@@ -11,6 +11,7 @@ use Rattle.geo_base.specs.Run.{Ran, all_settle, budget, counting_round, is_idle,
 use Rattle.geo_base.specs.Setup.{Setup}
 use Rattle.geo_base.specs.World.{World}
 use Rattle.world_laws.proofs.Walks.Walk.{on_elim}
+use Rattle.geo_base.proofs.Bools.{and_of_both}
 
 -- the world after an event of settling, which counts no idle events
 abbrev pub after : Setup → World → Event → World
@@ -38,12 +39,8 @@ at w = record { world = w; ended = None }
 abbrev Done : (s : Setup) (M : World → ℕ) (P : World → Type 0) (w : World) (es : List Event) → Type 0
 Done s M P w es = (w' : World) × (all_settle no_limits s (at w) es ≡ at w') × Round s M P w w' es
 
-both : (a b : Bool) → a ≡ true → b ≡ true → (a && b) ≡ true
-both true b h k = k
-both false b h k = h
-
 idle_first : (s : Setup) (M : World → ℕ) (P : World → Type 0) (w w' : World) (e : Event) (es : List Event) → is_idle s w e ≡ true → Round s M P w w' es → Round s M P w w' (e ∷ es)
-idle_first s M P w w' e es idle (Round.Quiet same quiet) = Round.Quiet same (both (is_idle s w e) (list_all (is_idle s w) es) idle quiet)
+idle_first s M P w w' e es idle (Round.Quiet same quiet) = Round.Quiet same (and_of_both (is_idle s w e) (list_all (is_idle s w) es) idle quiet)
 idle_first s M P w w' e es idle (Round.Less more less same q) = Round.Less more less same q
 
 lower_first : (s : Setup) (M : World → ℕ) (P : World → Type 0) (w v w' : World) (e : Event) (es : List Event) → w.events < v.events → M v < M w → v.rounds ≡ w.rounds → P v
@@ -154,7 +151,7 @@ settled_is s w =
     ap (λ (m : ℕ). (rounds_of m no_limits s (all_settle no_limits s (begun w) (resets_of (pairs s)))).world) one
     ∙ ap (λ (r : Ran). (rounds_of (suc (budget s w)) no_limits s r).world) (goes_on_for_ever s (resets_of (pairs s)) w)
 
--- What settling keeps holds there, where the weight behind the resets is within the budget before them
+-- What settling keeps holds there, where the weight after the resets is within the budget before them
 pub settled_has : (s : Setup) (M : World → ℕ) (P : World → Type 0) (R : Event → Type 0) → IsLowered s M P R → Each R (round_of (pairs s)) → (w : World)
     → P (all_reset s w) → M (all_reset s w) ≤ budget s w → P (after_settling s w)
 settled_has s M P R h all w p le = subst P (sym (settled_is s w)) (rounds_end s M P R h all (budget s w) (all_reset s w) p le).holds

@@ -22,7 +22,7 @@ from_push f (suc k) [] x = omega arith
 from_push f zero (y ∷ ys) x = omega (arith, from_push f zero ys x)
 from_push f (suc k) (y ∷ ys) x = from_push f k ys x
 
--- from behind an element on
+-- from after an element on
 pub from_behind : {X : Type 0} (f : X → ℕ) (k i : ℕ) (xs : List X) (x : X) → slice_get xs i ≡ Some x → k ≤ i → sum_from f (suc i) xs + f x ≤ sum_from f k xs
 from_behind f k i [] x at le = absurd (none-some x at)
 from_behind f zero zero (y ∷ ys) x at le = let e = ap f (same_Some _ _ at) in omega (arith, e)

@@ -2,26 +2,24 @@
 -- rounds for it.
 use Rattle.std.proofs.Common.{◌≡◌, ℕ, suc, ◌+◌, ◌-◌, ◌*◌, ◌^◌, ◌<◌, ◌≤◌, Bool, true, false, List, [], ◌∷◌, length, map, refl, sym, ap, ◌∙◌, arith}
 use Rattle.std.specs.Prelude.{Option, Some, None, if◌then◌else◌, ◌%◌, is_some, sum}
-use Rattle.std.proofs.Math.Nat.{mod-lt, mul-add, mul-one, mul-suc, mul_assoc, mul_comm, one-mul, pow-suc, pow-zero}
+use Rattle.std.proofs.Math.Nat.{mod-lt, mul-add, mul-one, mul-suc, mul_assoc, mul_comm}
 use Rattle.std.proofs.lemmas.Nat.{mul-le}
-use Rattle.world_laws.proofs.Types.{Builder, Entry, Frame, Packet}
+use Rattle.world_laws.proofs.Types.{SnapshotBuilder, Entry, Frame, Packet}
 use Rattle.world_laws.proofs.Types.frame
 use Rattle.geo_base.specs.Broker.{Broker}
 use Rattle.geo_base.specs.Link.{Link, untaken}
 use Rattle.geo_base.specs.Run.{untaken_of, waiting_of}
-use Rattle.geo_base.specs.Sender.{Sender}
+use Rattle.geo_base.specs.Replicator.{Replicator}
 use Rattle.geo_base.specs.Subscription.{Subscription}
 use Rattle.world_laws.proofs.Budget.Counting.{each_peer, request_part, unread_most}
 use Rattle.world_laws.proofs.Budget.Tails.{at_le, at_times, from_most, from_sum, sum_at, sum_cons, sum_from}
 use Rattle.world_laws.proofs.Walks.Walk.{on_if}
 use Rattle.world_laws.proofs.Budget.Weights.{ahead, asking, back_weight, behind, broker_weight, building, cached_in, dear, forward_weight, is_peer, is_request, table_weight, unread}
+use Rattle.geo_base.proofs.Sums.{cube}
 
 -- the rounds that the budget has for one thing
 unfoldable pub share : ℕ → ℕ
 share n = 8 * n ^ 3
-
-cube : (n : ℕ) → n ^ 3 ≡ n * n * n
-cube n = pow-suc n 2 ∙ ap (λ (k : ℕ). k * n) (pow-suc n 1 ∙ ap (λ (k : ℕ). k * n) (pow-suc n 0 ∙ ap (λ (k : ℕ). k * n) (pow-zero n) ∙ one-mul n))
 
 -- each thing fits
 pub record Fits (n : ℕ) : Type 0 where
@@ -94,8 +92,8 @@ from_times f g c h [] = omega arith
 from_times f g c h (x ∷ xs) =
     let e = ap (λ (k : ℕ). c * k) (sum_cons (g x) (map g xs)) ∙ mul-add c (g x) (sum (map g xs)) in omega (arith, e, h x, from_times f g c h xs)
 
--- what one sender has to read
-behind_most : (n x y : ℕ) (es : List Entry) (s : Sender) → behind n x es y s ≤ (if is_peer n x y then (3 + (n - 1) + dear (n - 1)) * length es else 0)
+-- what one replicator has to read
+behind_most : (n x y : ℕ) (es : List Entry) (s : Replicator) → behind n x es y s ≤ (if is_peer n x y then (3 + (n - 1) + dear (n - 1)) * length es else 0)
 behind_most n x y es s = by (is_peer n x y)
   where
     m : ℕ
@@ -113,17 +111,17 @@ behind_most n x y es s = by (is_peer n x y)
     by false = omega arith
 
 -- and all of a broker
-left_most : (n x : ℕ) (es : List Entry) (ss : List Sender) → x < n → sum_at (behind n x es) 0 ss ≤ asking (n - 1) * length es
+left_most : (n x : ℕ) (es : List Entry) (ss : List Replicator) → x < n → sum_at (behind n x es) 0 ss ≤ asking (n - 1) * length es
 unfolding asking
 left_most n x es ss lt =
     let m = n - 1 in
     let u = 3 + m + dear m in
     let each =
-    at_le (behind n x es) (λ y (s : Sender). if is_peer n x y then u * length es else 0) (λ y s. behind_most n x y es s) 0 ss in
+    at_le (behind n x es) (λ y (s : Replicator). if is_peer n x y then u * length es else 0) (λ y s. behind_most n x y es s) 0 ss in
     let turned : u * length es * m ≡ u * m * length es = mul_assoc u (length es) m ∙ ap (λ (k : ℕ). u * k) (mul_comm (length es) m) ∙ sym (mul_assoc u m (length es)) in
     omega (arith, each, each_peer n x (u * length es) lt ss, turned)
 
-building_most : (m c : ℕ) (o : Option Builder) → asking m + dear m ≤ c → building m o ≤ c * (if is_some o then 1 else 0)
+building_most : (m c : ℕ) (o : Option SnapshotBuilder) → asking m + dear m ≤ c → building m o ≤ c * (if is_some o then 1 else 0)
 building_most m c None le = omega arith
 building_most m c (Some u) le =
     let h = on_if (λ (k : ℕ). k ≤ c) u.second (dear m) (asking m + dear m) (omega (arith, le)) le in let e = mul-one c in omega (arith, h, e)
@@ -140,11 +138,11 @@ broker_most n x b lt =
     let caches : ℕ = sum (map (λ (v : Subscription). length v.cache) b.subs) in
     let built : ℕ = if is_some b.builder then 1 else 0 in
     let same = ap (λ (k : ℕ). dear m * k) (from_sum (λ (v : Subscription). length v.cache) b.subs) in
-    let left = left_most n x b.entries b.senders lt in
+    let left = left_most n x b.entries b.replicators lt in
     let entries = mul-le (asking m) (length b.entries) c (length b.entries) f.entry (omega arith) in
     let snapshots = mul-le (dear m) caches c caches f.snapshot (omega arith) in
     let builder = building_most m c b.builder f.builder in
-    all_fit c (length b.entries) caches built (sum_at (behind n x b.entries) 0 b.senders) (dear m * cached_in b.subs) (building m b.builder)
+    all_fit c (length b.entries) caches built (sum_at (behind n x b.entries) 0 b.replicators) (dear m * cached_in b.subs) (building m b.builder)
     (omega (arith, left, entries)) (omega (arith, same, snapshots)) builder
 
 pub brokers_most : (n : ℕ) (bs : List Broker) → 0 < n → sum_at (λ j b. broker_weight n (j % n) b) 0 bs ≤ share n * sum (map waiting_of bs)

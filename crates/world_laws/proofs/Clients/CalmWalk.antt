@@ -1,8 +1,8 @@
 -- Each plan of a broker is calm towards client c, or gives what its subscription lacks to a consumer that was picked. m is at least the
 -- number of c's last connection, d is what c is declared as.
-use Rattle.std.proofs.Common.{◌≡◌, ℕ, ◌≤◌, Bool, true, false, List, [], ◌∷◌, length, refl, sym, ap, subst}
-use Rattle.std.specs.Prelude.{◌&&◌, Option, Some, not, slice_get}
-use Rattle.std.proofs.lemmas.Bool.{eqb-true, false≢true}
+use Rattle.std.proofs.Common.{◌≡◌, ℕ, ◌≤◌, true, false, List, [], ◌∷◌, length, refl, sym, ap, subst}
+use Rattle.std.specs.Prelude.{Option, Some, not, slice_get}
+use Rattle.std.proofs.lemmas.Bool.{eqb-true}
 use Rattle.world_laws.proofs.Types.{Entry, Frame, Packet, Position, Session}
 use Rattle.world_laws.proofs.Types.change
 use Rattle.world_laws.proofs.Types.frame
@@ -27,11 +27,7 @@ use Rattle.world_laws.proofs.Walks.Shapes.{Answered, Fated, InSession, IsReply, 
 use Rattle.world_laws.proofs.Dispatching.SubFrames.{each_at_place}
 use Rattle.world_laws.specs.SubLines.{IsSubLine}
 use Rattle.world_laws.proofs.Clients.Consumers.{IsCalm, IsCalmChange, IsCalmOut, IsQuiet}
-
--- what is due is outside a cursor
-pub undue : (c d : Bool) → (not c && d) ≡ true → c ≡ false
-undue true d h = absurd (false≢true h)
-undue false d h = refl
+pub use Rattle.geo_base.proofs.Bools.{unless_false as undue}
 
 -- a SUBSCRIBE is that of the sub line of its id
 abbrev pub IsNamed : Declared → Frame → Type 0
@@ -131,7 +127,7 @@ reads_calm t c m d h b y q (Reads.Counts i e id answer u u' next is heard) = cal
 reads_calm t c m d h b y q (Reads.AsksAgain i e id answer u u' next is heard) = calm t c m d q (tt, (tt, tt)) tt
 reads_calm t c m d h b y q (Reads.Completes i e id answer u u' next is heard) = calm t c m d q (tt, (tt, tt)) tt
 reads_calm t c m d h b y q (Reads.CreatesAt i j e n remote next is absent) = calm t c m d q (tt, (tt, tt)) tt
-reads_calm t c m d h b y q (Reads.PassesOver i j e n remote v ws next is found after) = calm t c m d q (tt, (tt, tt)) tt
+reads_calm t c m d h b y q (Reads.ActsOnUpdate i j e n remote v ws next is found after) = calm t c m d q (tt, (tt, tt)) tt
 
 snaps_calm : (t c m : ℕ) (d : Declared) (h : Site) (b : Broker) (q : Plan) → Snaps h b q → IsCalm t c m d q
 snaps_calm t c m d h b q Snaps.NothingToAsk = calm t c m d q tt tt
@@ -145,7 +141,7 @@ offers_act : (t c m : ℕ) (d : Declared) (h : Site) (b : Broker) (n : List ℕ)
 offers_act t c m d h b n q Offers.NothingToOffer = Acts.Calmly q (calm t c m d q tt tt)
 offers_act t c m d h b n q (Offers.Gives v i at e due is picked) =
     let least = least_due_is v 0 (length b.entries) i due.1 in Acts.Giving n v i at e due.0 due.1 (undue (has v.cursor i) _ least.due) due.2 picked
-offers_act t c m d h b n q (Offers.PassesBy v i e ws due is after) = Acts.Calmly q (calm t c m d q (tt, (tt, tt)) tt)
+offers_act t c m d h b n q (Offers.SkipsMarker v i e ws due is after) = Acts.Calmly q (calm t c m d q (tt, (tt, tt)) tt)
 offers_act t c m d h b n q (Offers.Caches v i j e x ws due is after) = Acts.Calmly q (calm t c m d q (tt, (tt, (tt, tt))) tt)
 
 -- what c's link to each cluster of its topic has

@@ -6,7 +6,7 @@ use Rattle.std.specs.List.{list_any}
 use Rattle.world_laws.proofs.Types.{Frame, Held, Ident, Line, Out, Packet, Position}
 use Rattle.world_laws.proofs.Types.frame
 use Rattle.world_laws.proofs.Types.line
-use Rattle.world_laws.proofs.Types.place
+use Rattle.world_laws.proofs.Types.cluster_ref
 use Rattle.geo_base.specs.Client.{Acted, Client, command, command_at, commands_at, connected_to, connects, reconnect, stays}
 use Rattle.geo_base.specs.Getting.{answered, get, got_frame, is_duplicate, is_number, publishes, received, with_error, with_receipt}
 use Rattle.geo_base.specs.Going.{acks_all, acks_one, acks_to, first_held, go, go_line, most_unanswered, past}
@@ -107,8 +107,8 @@ frame_same d k (frame.SendReceipt id n p) = answered_same d k n (with_receipt k 
 frame_same d k (frame.SendError id n code) = answered_same d k n (with_error k) (record { is = refl })
 frame_same d k (frame.Error request code) = record { is = refl }
 frame_same d k (frame.Message id p None e) = received_same k id _ p
-frame_same d k (frame.Message id p (Some (place.Known x)) e) = received_same k id _ p
-frame_same d k (frame.Message id p (Some (place.Stranger name)) e) = record { is = refl }
+frame_same d k (frame.Message id p (Some (cluster_ref.Known x)) e) = received_same k id _ p
+frame_same d k (frame.Message id p (Some (cluster_ref.Stranger name)) e) = record { is = refl }
 frame_same d k f = record { is = refl }
 
 packet_same : (d : Declared) (k : Client) (p : Packet) → Same k (if p.session == k.connection then got_frame d k p.frame else k)

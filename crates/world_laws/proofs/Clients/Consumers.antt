@@ -104,7 +104,7 @@ changed_own t c d m b (change.Permit n z permits) g h =
     at_sub_own t c d b n (permitted z permits)
     (λ v p. each_mapped (IsOwnConsumer t c d v.name) (λ (k : Consumer). if is_of z k then record k { permits = min most_permits (k.permits + permits) } else k)
     (λ k q. on_if (IsOwnConsumer t c d v.name) (is_of z k) _ k q q) v.consumers p) h
-changed_own t c d m b (change.Passed n i) g h = at_sub_own t c d b n _ (λ v p. p) h
+changed_own t c d m b (change.Skipped n i) g h = at_sub_own t c d b n _ (λ v p. p) h
 changed_own t c d m b (change.Given n i at) g h = absurd g
 changed_own t c d m b (change.Cache n x) g h = at_sub_own t c d b n _ (λ v p. p) h
 changed_own t c d m b (change.Acked n) g h = at_sub_own t c d b n _ (λ v p. p) h

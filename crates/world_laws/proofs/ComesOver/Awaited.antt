@@ -1,10 +1,10 @@
--- The receipts that a sender awaits: where their numbers differ, a receipt that comes is of one index, and leaves all others.
+-- The receipts that a replicator awaits: where their numbers differ, a receipt that comes is of one index, and leaves all others.
 use Rattle.std.proofs.Common.{◌≡◌, ℕ, zero, suc, Bool, true, false, List, [], ◌∷◌, ◌++◌, refl, sym, ap, ◌∙◌, ◌==◌, inl, inr, ◌⊎◌}
 use Rattle.std.specs.Prelude.{Some, None, if◌then◌else◌, slice_get}
 use Rattle.std.proofs.lemmas.Bool.{eqb-true, eqb-false}
 use Rattle.std.proofs.lemmas.Option.{none-some, same_Some}
 use Rattle.world_laws.proofs.Types.{Pending}
-use Rattle.geo_base.specs.Sender.{pending_index, without_number}
+use Rattle.geo_base.specs.Replicator.{pending_index, without_number}
 use Rattle.world_laws.proofs.OnceInOrder.Members.{Stands, get_push, stands_next}
 use Rattle.world_laws.proofs.Replicating.SessionFacts.{pending_is, without_is}
 

@@ -1,4 +1,4 @@
--- What comes back on a link is of a session that its sender began, of no later one: so it is in every world of every run.
+-- What comes back on a link is of a session that its replicator began, of no later one: so it is in every world of every run.
 use Rattle.std.proofs.Common.{◌≡◌, ℕ, zero, suc, ◌+◌, ◌*◌, ◌<◌, ◌≤◌, true, List, [], ◌∷◌, length, map, refl, sym, ap, subst, ◌∙◌, ◌==◌, arith, length-append}
 use Rattle.std.specs.Prelude.{Option, Some, None, nat_lt, replicate, slice_index_or, slice_set, take}
 use Rattle.std.specs.Str.{bytes_eq}
@@ -9,7 +9,7 @@ use Rattle.world_laws.proofs.Types.{Change, Out, Packet, Peer}
 use Rattle.world_laws.proofs.Types.change
 use Rattle.world_laws.proofs.Types.peer
 use Rattle.world_laws.proofs.Types.write
-use Rattle.geo_base.specs.Broker.{Broker, Site, no_broker, sender_at}
+use Rattle.geo_base.specs.Broker.{Broker, Site, no_broker, replicator_at}
 use Rattle.geo_base.specs.Client.{Acted}
 use Rattle.geo_base.specs.Forwarding.{closes, resets}
 use Rattle.geo_base.specs.Happening.{broker_does, broker_halts, client_does, stops}
@@ -18,10 +18,10 @@ use Rattle.geo_base.specs.Link.{Link, discarded, no_link, took}
 use Rattle.geo_base.specs.Plan.{Plan, done, halted}
 use Rattle.geo_base.specs.Planned.{Planned, has_pair}
 use Rattle.geo_base.specs.Seeking.{restart}
-use Rattle.geo_base.specs.Sender.{Sender}
+use Rattle.geo_base.specs.Replicator.{Replicator}
 use Rattle.geo_base.specs.Setup.{Setup, declared_at}
 use Rattle.geo_base.specs.World.{Back, Forward, LinkName, Links, ToBroker, ToClient, World, cell, delivered, from_broker, link_at, node, opening_world, site, stamped, taken_from, topic_at}
-use Rattle.world_laws.proofs.Replicating.Effects.{Each, done_sender, each_both, each_map, each_take, halted_sender, sender_after, sender_changed, sender_then}
+use Rattle.world_laws.proofs.Replicating.Effects.{Each, done_replicator, each_both, each_map, each_take, halted_replicator, replicator_after, replicator_changed, replicator_then}
 use Rattle.world_laws.proofs.Walks.EventWalk.{of_node, of_pair, of_target}
 use Rattle.world_laws.proofs.Induction.Frames.{at_set, cell_set}
 use Rattle.world_laws.proofs.Induction.Layers.{KeptWith}
@@ -31,20 +31,20 @@ use Rattle.world_laws.proofs.Replicating.PairEvents.{source_role}
 use Rattle.world_laws.proofs.Replicating.PairRoles.{AtSource, shape_within}
 use Rattle.world_laws.proofs.Replicating.Pairs.{Replicates, discarded_cell, empty_cell}
 use Rattle.world_laws.proofs.Replicating.Reach.{Outgoing, OutgoingOut, OutgoingPeer, fated_quiet, offers_out, reads_out, seeks_out, served_out, snaps_out}
-use Rattle.world_laws.proofs.Replicating.SenderEvents.{chosen, reset_sender}
-use Rattle.world_laws.proofs.Replicating.SenderSide.{OkWrite, all_ok_written, none_written}
+use Rattle.world_laws.proofs.Replicating.ReplicatorEvents.{chosen, reset_replicator}
+use Rattle.world_laws.proofs.Replicating.ReplicatorSide.{OkWrite, all_ok_written, none_written}
 use Rattle.world_laws.proofs.Walks.Shapes.{Fated, Shape, Taken}
 use Rattle.world_laws.proofs.Replicating.Sizes.{IsThere, discarded_has, node_lt, node_there, stopped_at}
 use Rattle.world_laws.proofs.ComesOver.Waiting.{AllSent, one_sent}
 use Rattle.world_laws.proofs.Walks.Walk.{left, on_if, right}
 
--- of a link, whose sender's session has a number: nothing later was sent on it, and no more is taken than was sent
+-- of a link, whose replicator's session has a number: nothing later was sent on it, and no more is taken than was sent
 pub record BackAt (m : ℕ) (k : Link) : Type 0 where
   pub bounded : AllSent (λ u. u.session ≤ m) k
   pub within : k.taken ≤ length k.sent
 
 abbrev pub number_of : Setup → List Broker → ℕ → ℕ → ℕ → ℕ
-number_of s bs t x y = (sender_at (slice_index_or bs (node s t x) no_broker) y).session
+number_of s bs t x y = (replicator_at (slice_index_or bs (node s t x) no_broker) y).session
 
 abbrev pub number_at : Setup → World → ℕ → ℕ → ℕ → ℕ
 number_at s w t x y = number_of s w.brokers t x y
@@ -60,85 +60,85 @@ Backs s w = BacksOf s w.brokers w.links
 -- SESSIONS
 
 -- no change turns a session's number
-number_changed : (y : ℕ) (s : Sender) (c : Change) → (sender_changed y s c).session ≡ s.session
-number_changed y s (change.Opening z) = on_if (λ (t : Sender). t.session ≡ s.session) (z == y) _ _ refl refl
-number_changed y s (change.Opened z) = on_if (λ (t : Sender). t.session ≡ s.session) (z == y) _ _ refl refl
-number_changed y s (change.Pend z i) = on_if (λ (t : Sender). t.session ≡ s.session) (z == y) _ _ refl refl
-number_changed y s (change.ReadTo z i) = on_if (λ (t : Sender). t.session ≡ s.session) (z == y) _ _ refl refl
-number_changed y s (change.Unpend z n) = on_if (λ (t : Sender). t.session ≡ s.session) (z == y) _ _ refl refl
+number_changed : (y : ℕ) (s : Replicator) (c : Change) → (replicator_changed y s c).session ≡ s.session
+number_changed y s (change.Opening z) = on_if (λ (t : Replicator). t.session ≡ s.session) (z == y) _ _ refl refl
+number_changed y s (change.Opened z) = on_if (λ (t : Replicator). t.session ≡ s.session) (z == y) _ _ refl refl
+number_changed y s (change.Pend z i) = on_if (λ (t : Replicator). t.session ≡ s.session) (z == y) _ _ refl refl
+number_changed y s (change.ReadTo z i) = on_if (λ (t : Replicator). t.session ≡ s.session) (z == y) _ _ refl refl
+number_changed y s (change.Unpend z n) = on_if (λ (t : Replicator). t.session ≡ s.session) (z == y) _ _ refl refl
 number_changed y s change.Forget = refl
 number_changed y s c = refl
 
-number_then : (y : ℕ) (s : Sender) (cs : List Change) → (sender_then y s cs).session ≡ s.session
+number_then : (y : ℕ) (s : Replicator) (cs : List Change) → (replicator_then y s cs).session ≡ s.session
 number_then y s [] = refl
-number_then y s (c ∷ cs) = number_then y (sender_changed y s c) cs ∙ number_changed y s c
+number_then y s (c ∷ cs) = number_then y (replicator_changed y s c) cs ∙ number_changed y s c
 
 -- nor does a write, but for that of a reset
-source_rises : (x y per : ℕ) (a b : Broker) (f : Link) (back : List Packet) (p : Plan) → y < length a.senders → AtSource x y per a b f back p
-    → (sender_at a y).session ≤ (sender_at (done per a p) y).session
+source_rises : (x y per : ℕ) (a b : Broker) (f : Link) (back : List Packet) (p : Plan) → y < length a.replicators → AtSource x y per a b f back p
+    → (replicator_at a y).session ≤ (replicator_at (done per a p) y).session
 source_rises x y per a b f back p lt (AtSource.Works ok does) =
-    let s = sender_at a y in
+    let s = replicator_at a y in
     let w = all_ok_written x y a.entries b.entries s a.entries s p.writes ok (none_written x y a.entries b.entries s) in
-    let e = ap (λ (t : Sender). t.session) (done_sender per a y p lt) ∙ (number_then y (sender_after y s p.writes) p.changes ∙ ap (λ (t : Sender). t.session) w.rest) in
+    let e = ap (λ (t : Replicator). t.session) (done_replicator per a y p lt) ∙ (number_then y (replicator_after y s p.writes) p.changes ∙ ap (λ (t : Replicator). t.session) w.rest) in
     omega (arith, e)
 source_rises x y per a b f back p lt (AtSource.Resets h is) =
-    let s = sender_at a y in
+    let s = replicator_at a y in
     let n = s.session + 1 in
-    let P : Plan → Type 0 = λ q. s.session ≤ (sender_at (done per a q) y).session in
-    let e = ap (λ (t : Sender). t.session) (done_sender per a y (resets h y n) lt ∙ reset_sender y n s) in subst P (sym is) (omega (arith, e))
+    let P : Plan → Type 0 = λ q. s.session ≤ (replicator_at (done per a q) y).session in
+    let e = ap (λ (t : Replicator). t.session) (done_replicator per a y (resets h y n) lt ∙ reset_replicator y n s) in subst P (sym is) (omega (arith, e))
 
-halt_rises : (x y per k : ℕ) (a b : Broker) (f : Link) (back : List Packet) (p : Plan) → y < length a.senders → AtSource x y per a b f back p
-    → (sender_at a y).session ≤ (sender_at (halted per a k p) y).session
+halt_rises : (x y per k : ℕ) (a b : Broker) (f : Link) (back : List Packet) (p : Plan) → y < length a.replicators → AtSource x y per a b f back p
+    → (replicator_at a y).session ≤ (replicator_at (halted per a k p) y).session
 halt_rises x y per k a b f back p lt (AtSource.Works ok does) =
-    let s = sender_at a y in
+    let s = replicator_at a y in
     let w = all_ok_written x y a.entries b.entries s a.entries s (take k p.writes) (each_take (OkWrite x y a.entries b.entries) k p.writes ok)
     (none_written x y a.entries b.entries s) in
-    let e = ap (λ (t : Sender). t.session) (halted_sender per a y k p lt) ∙ ap (λ (t : Sender). t.session) w.rest in
+    let e = ap (λ (t : Replicator). t.session) (halted_replicator per a y k p lt) ∙ ap (λ (t : Replicator). t.session) w.rest in
     omega (arith, e)
 halt_rises x y per k a b f back p lt (AtSource.Resets h is) =
-    let s = sender_at a y in
+    let s = replicator_at a y in
     let n = s.session + 1 in
-    let P : Plan → Type 0 = λ q. s.session ≤ (sender_at (halted per a k q) y).session in
-    let e = ap (λ (t : Sender). t.session) (halted_sender per a y k (resets h y n) lt) in
+    let P : Plan → Type 0 = λ q. s.session ≤ (replicator_at (halted per a k q) y).session in
+    let e = ap (λ (t : Replicator). t.session) (halted_replicator per a y k (resets h y n) lt) in
     let le = by k s n in
     subst P (sym is) (omega (arith, e, le))
   where
-    by : (k : ℕ) (s : Sender) (n : ℕ) → s.session ≤ (sender_after y s (take k (write.SessionNumber y (s.session + 1) ∷ []))).session
+    by : (k : ℕ) (s : Replicator) (n : ℕ) → s.session ≤ (replicator_after y s (take k (write.SessionNumber y (s.session + 1) ∷ []))).session
     by zero s n = omega arith
-    by (suc zero) s n = let e = ap (λ (t : Sender). t.session) (chosen y (record s { session = s.session + 1 }) s) in omega (arith, e)
-    by (suc (suc k)) s n = let e = ap (λ (t : Sender). t.session) (chosen y (record s { session = s.session + 1 }) s) in omega (arith, e)
+    by (suc zero) s n = let e = ap (λ (t : Replicator). t.session) (chosen y (record s { session = s.session + 1 }) s) in omega (arith, e)
+    by (suc (suc k)) s n = let e = ap (λ (t : Replicator). t.session) (chosen y (record s { session = s.session + 1 }) s) in omega (arith, e)
 
 done_rises : (s : Setup) (w : World) (p : Planned) (y : ℕ) → Shape s w p → Replicates s w → p.topic < length s.topics → ArePair s p.cluster y
-    → number_at s w p.topic p.cluster y ≤ (sender_at (done s.per_ledger (topic_at s w p.topic p.cluster) p.plan) y).session
+    → number_at s w p.topic p.cluster y ≤ (replicator_at (done s.per_ledger (topic_at s w p.topic p.cluster) p.plan) y).session
 done_rises s w p y shape r lt pair =
     let a = topic_at s w p.topic p.cluster in
-    let wide : y < length a.senders = omega (arith, pair.1, (r.sized.wide p.topic p.cluster (lt, pair.0)).senders) in
+    let wide : y < length a.replicators = omega (arith, pair.1, (r.sized.wide p.topic p.cluster (lt, pair.0)).replicators) in
     source_rises p.cluster y s.per_ledger a (topic_at s w p.topic y) _ _ p.plan wide
     (source_role s w p shape y pair.2 wide (r.pairs p.topic p.cluster y lt pair))
 
 halted_rises : (s : Setup) (w : World) (k : ℕ) (p : Planned) (y : ℕ) → Shape s w p → Replicates s w → p.topic < length s.topics → ArePair s p.cluster y
-    → number_at s w p.topic p.cluster y ≤ (sender_at (halted s.per_ledger (topic_at s w p.topic p.cluster) k p.plan) y).session
+    → number_at s w p.topic p.cluster y ≤ (replicator_at (halted s.per_ledger (topic_at s w p.topic p.cluster) k p.plan) y).session
 halted_rises s w k p y shape r lt pair =
     let a = topic_at s w p.topic p.cluster in
-    let wide : y < length a.senders = omega (arith, pair.1, (r.sized.wide p.topic p.cluster (lt, pair.0)).senders) in
+    let wide : y < length a.replicators = omega (arith, pair.1, (r.sized.wide p.topic p.cluster (lt, pair.0)).replicators) in
     halt_rises p.cluster y s.per_ledger k a (topic_at s w p.topic y) _ _ p.plan wide
     (source_role s w p shape y pair.2 wide (r.pairs p.topic p.cluster y lt pair))
 
 -- one broker is new
 node_rises : (s : Setup) (w : World) (p : Planned) (b : Broker) (t x y : ℕ) → p.cluster < length s.clusters → t < length s.topics → ArePair s x y
-    → (p.topic < length s.topics → ArePair s p.cluster y → number_at s w p.topic p.cluster y ≤ (sender_at b y).session)
-    → number_at s w t x y ≤ (sender_at (slice_index_or (slice_set w.brokers (node s p.topic p.cluster) b) (node s t x) no_broker) y).session
+    → (p.topic < length s.topics → ArePair s p.cluster y → number_at s w p.topic p.cluster y ≤ (replicator_at b y).session)
+    → number_at s w t x y ≤ (replicator_at (slice_index_or (slice_set w.brokers (node s p.topic p.cluster) b) (node s t x) no_broker) y).session
 node_rises s w p b t x y within lt pair h =
-    at_set (λ (c : Broker). number_at s w t x y ≤ (sender_at c y).session) w.brokers (node s p.topic p.cluster) (node s t x) b no_broker
+    at_set (λ (c : Broker). number_at s w t x y ≤ (replicator_at c y).session) w.brokers (node s p.topic p.cluster) (node s t x) b no_broker
     (λ is.
     let same = same_node s p.topic t p.cluster x within pair.0 is in
-    let G : ℕ → ℕ → Type 0 = λ u v. u < length s.topics → ArePair s v y → number_at s w u v y ≤ (sender_at b y).session in
+    let G : ℕ → ℕ → Type 0 = λ u v. u < length s.topics → ArePair s v y → number_at s w u v y ≤ (replicator_at b y).session in
     (subst (λ (u : ℕ). G u x) same.0 (subst (G p.topic) same.1 h)) lt pair)
     (omega arith)
 
 -- ANSWERS
 
--- what goes back is of a session that its sender began
+-- what goes back is of a session that its replicator began
 abbrev BoundedOut : Setup → World → ℕ → ℕ → Out → Peer → Type 0
 BoundedOut s w t c o (peer.Back v) = (v < length s.clusters) × ((v ≡ c → ⊥) → o.session ≤ number_at s w t v c)
 BoundedOut s w t c o to = Unit {0}
@@ -247,7 +247,7 @@ backs_does s w p shape r h = on_if (Backs s) p.plan.idle _ _ h (acts _)
           taken_has p.takes (delivered (from_broker s p.topic p.cluster) stamp p.plan.sent w.links) (Back (node s t x) y)
           (delivered_has (from_broker s p.topic p.cluster) stamp p.plan.sent w.links (Back (node s t x) y) (h.cells t x y there lt));
       links = λ t x y lt pair.
-          let n = (sender_at (slice_index_or (slice_set w.brokers (node s p.topic p.cluster) b) (node s t x) no_broker) y).session in
+          let n = (replicator_at (slice_index_or (slice_set w.brokers (node s p.topic p.cluster) b) (node s t x) no_broker) y).session in
           let le = node_rises s w p b t x y (shape_within s w p shape) lt pair (λ lt pair. done_rises s w p y shape r lt pair) in
           taken_keeps (BackAt n) p.takes (delivered (from_broker s p.topic p.cluster) stamp p.plan.sent w.links) (node s t x) y (took_bounded n)
           (back_sent s p.topic p.cluster (node s t x) y stamp (BackAt n) p.plan.sent w.links
@@ -262,7 +262,7 @@ backs_halts s w k p shape r h = record {
   cells = λ t x y there lt. taken_has p.takes w.links (Back (node s t x) y) (h.cells t x y there lt);
   links = λ t x y lt pair.
       let b = halted s.per_ledger (topic_at s w p.topic p.cluster) k p.plan in
-      let n = (sender_at (slice_index_or (slice_set w.brokers (node s p.topic p.cluster) b) (node s t x) no_broker) y).session in
+      let n = (replicator_at (slice_index_or (slice_set w.brokers (node s p.topic p.cluster) b) (node s t x) no_broker) y).session in
       let le = node_rises s w p b t x y (shape_within s w p shape) lt pair (λ lt pair. halted_rises s w k p y shape r lt pair) in
       taken_keeps (BackAt n) p.takes w.links (node s t x) y (took_bounded n)
       (more_bounded (number_at s w t x y) n (link_at w.links (Back (node s t x) y)) le (h.links t x y lt pair));
@@ -287,10 +287,10 @@ backs_stops s w r h = record {
   cells = λ t x y there lt. discarded_has w.links.back (node s t x) y (h.cells t x y there lt);
   links = λ t x y lt pair.
       let a = topic_at s w t x in
-      let wide : y < length a.senders = omega (arith, pair.1, (r.sized.wide t x (lt, pair.0)).senders) in
-      let e = ap (λ (b : Broker). (sender_at b y).session) (stopped_at w.brokers (λ b. done s.per_ledger b restart) (node s t x) (node_there s w t x r.sized (lt, pair.0)))
-      ∙ ap (λ (t : Sender). t.session) (done_sender s.per_ledger a y restart wide) in
-      let n = (sender_at (slice_index_or (map (λ (b : Broker). done s.per_ledger b restart) w.brokers) (node s t x) no_broker) y).session in
+      let wide : y < length a.replicators = omega (arith, pair.1, (r.sized.wide t x (lt, pair.0)).replicators) in
+      let e = ap (λ (b : Broker). (replicator_at b y).session) (stopped_at w.brokers (λ b. done s.per_ledger b restart) (node s t x) (node_there s w t x r.sized (lt, pair.0)))
+      ∙ ap (λ (t : Replicator). t.session) (done_replicator s.per_ledger a y restart wide) in
+      let n = (replicator_at (slice_index_or (map (λ (b : Broker). done s.per_ledger b restart) w.brokers) (node s t x) no_broker) y).session in
       subst (λ (l : Link). BackAt n l) (sym (discarded_cell w.links.back (node s t x) y))
       (more_bounded (number_at s w t x y) n (discarded (link_at w.links (Back (node s t x) y))) (omega (arith, e))
       (record { bounded = (h.links t x y lt pair).bounded; within = omega arith }));

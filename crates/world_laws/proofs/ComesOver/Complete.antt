@@ -1,4 +1,4 @@
--- When settling has ended, all has come over: each sender is open and has acknowledged all of its topic, and every entry that a
+-- When settling has ended, all has come over: each replicator is open and has acknowledged all of its topic, and every entry that a
 -- cluster is to have stands there.
 use Rattle.std.proofs.Common.{◌≡◌, ℕ, zero, ◌+◌, ◌<◌, Bool, true, false, List, [], ◌∷◌, ◌++◌, length, refl, sym, subst, ◌∙◌, ◌==◌, arith, inl, inr}
 use Rattle.std.specs.Prelude.{Some, nat_lt, slice_get}
@@ -7,7 +7,7 @@ use Rattle.std.proofs.lemmas.Bool.Decides.{nat_tests}
 use Rattle.std.proofs.lemmas.List.{append-nil}
 use Rattle.std.proofs.lemmas.Option.{slice_get_within}
 use Rattle.world_laws.proofs.Types.{Entry, Event}
-use Rattle.geo_base.specs.Broker.{sender_at}
+use Rattle.geo_base.specs.Broker.{replicator_at}
 use Rattle.geo_base.specs.Cursor.{has}
 use Rattle.geo_base.specs.Entry.{is_outbound}
 use Rattle.geo_base.specs.Happening.{happens}
@@ -33,7 +33,7 @@ use Rattle.world_laws.proofs.Induction.Runs.{IsKept, all_settled, between_events
 use Rattle.world_laws.proofs.ComesOver.Waiting.{none_waits}
 use Rattle.world_laws.proofs.Budget.Weights.{weight}
 
--- where all entries for y stand at y, nothing is left behind the beginning that y has
+-- where all entries for y stand at y, nothing is left after the beginning that y has
 all_arrived : (x y : ℕ) (near far : List Entry) → OnceIn near → Begins x y near far
     → ((i : ℕ) (e : Entry) → slice_get near i ≡ Some e → is_outbound x y e ≡ true → Stands far e) → outbound x y near ≡ of_origin x far
 all_arrived x y near far once begins all = by begins.0 begins.1
@@ -74,7 +74,7 @@ complete s w t x y lt pair ground live quiet = by live
     by (Live.Runs h) =
         let facts = ground.0.pairs t x y lt pair in
         let a = topic_at s w t x in
-        let acked : (i : ℕ) → i < length a.entries → has (sender_at a y).cursor i ≡ true = λ i within. at_index i within (nat_lt i (sender_at a y).read_index) refl in
+        let acked : (i : ℕ) → i < length a.entries → has (replicator_at a y).cursor i ≡ true = λ i within. at_index i within (nat_lt i (replicator_at a y).read_index) refl in
         record {
           opened = h.state;
           acknowledged = acked;
@@ -83,8 +83,8 @@ complete s w t x y lt pair ground live quiet = by live
               (λ i e at out. facts.carried.received i e (acked i (slice_get_within a.entries i e at)) at out);
         }
       where
-        at_index : (i : ℕ) → i < length (topic_at s w t x).entries → (b : Bool) → nat_lt i (sender_at (topic_at s w t x) y).read_index ≡ b
-            → has (sender_at (topic_at s w t x) y).cursor i ≡ true
+        at_index : (i : ℕ) → i < length (topic_at s w t x).entries → (b : Bool) → nat_lt i (replicator_at (topic_at s w t x) y).read_index ≡ b
+            → has (replicator_at (topic_at s w t x) y).cursor i ≡ true
         at_index i within true read =
             elim (h.read i (ltb-true _ _ read)) [
               | inl acked ↦ acked

@@ -4,12 +4,12 @@ use Rattle.std.specs.Prelude.{Option, Some, None, ◌==◌, slice_get, take}
 use Rattle.std.proofs.lemmas.Bool.{eq-eqb, eqb-true, false≢true}
 use Rattle.std.proofs.lemmas.List.{get_or-replicate}
 use Rattle.std.proofs.lemmas.Option.{slice_get_within}
-use Rattle.world_laws.proofs.Types.{Entry, Place, Write}
+use Rattle.world_laws.proofs.Types.{Entry, ClusterRef, Write}
 use Rattle.world_laws.proofs.Types.content
 use Rattle.world_laws.proofs.Types.marker
 use Rattle.world_laws.proofs.Types.write
 use Rattle.geo_base.specs.Broker.{Broker, Site, new_broker, no_broker}
-use Rattle.geo_base.specs.Builder.{snapshot_id}
+use Rattle.geo_base.specs.SnapshotBuilder.{snapshot_id}
 use Rattle.geo_base.specs.Happening.{broker_does, broker_halts, client_does, stops}
 use Rattle.geo_base.specs.Client.{Acted}
 use Rattle.geo_base.specs.Laws.{IsShort}
@@ -53,7 +53,7 @@ abbrev pub AllFit : Setup → World → Type 0
 AllFit s w = Everywhere s (FitAt s) w
 
 -- a request that stands is an own one where it came from, so its id is short
-asked_short : (s : Setup) (w : World) (t x i : ℕ) (e : Entry) (id : List ℕ) (source : Place) → AreShort s.clusters → Knows s w → IsThere s t x
+asked_short : (s : Setup) (w : World) (t x i : ℕ) (e : Entry) (id : List ℕ) (source : ClusterRef) → AreShort s.clusters → Knows s w → IsThere s t x
     → slice_get (topic_at s w t x).entries i ≡ Some e → e.content ≡ content.Marked (marker.Request id source) → length id ≤ 60
 asked_short s w t x i e id source names k there at is = by (y == x) refl
   where

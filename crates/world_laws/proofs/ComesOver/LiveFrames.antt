@@ -7,26 +7,26 @@ use Rattle.std.proofs.lemmas.List.{get_or-set_same}
 use Rattle.world_laws.proofs.Types.{Out, Packet, Peer, Write}
 use Rattle.world_laws.proofs.Types.peer
 use Rattle.world_laws.proofs.Types.write
-use Rattle.geo_base.specs.Broker.{Broker, Site, no_broker, receiver_at, sender_at}
+use Rattle.geo_base.specs.Broker.{Broker, Site, no_broker, receiver_at, replicator_at}
 use Rattle.geo_base.specs.Laws.{ArePair}
 use Rattle.geo_base.specs.Link.{Link, sent_on, took}
 use Rattle.geo_base.specs.Nodes.{same_link}
 use Rattle.geo_base.specs.Plan.{Plan, done}
 use Rattle.geo_base.specs.Planned.{Planned}
-use Rattle.geo_base.specs.Sender.{Sender}
+use Rattle.geo_base.specs.Replicator.{Replicator}
 use Rattle.geo_base.specs.Setup.{Setup, topic_name}
 use Rattle.geo_base.specs.World.{Back, Forward, LinkName, Links, ToBroker, ToClient, World, broker_at, cell, delivered, from_broker, link_at, node, site, stamped, taken_from, topic_at, with_cell, with_link}
-use Rattle.world_laws.proofs.Replicating.Effects.{Each, done_sender, done_session, each_map, sender_after, sender_then, session_then}
+use Rattle.world_laws.proofs.Replicating.Effects.{Each, done_replicator, done_session, each_map, replicator_after, replicator_then, session_then}
 use Rattle.world_laws.proofs.Induction.Frames.{at_set, cell_set}
 use Rattle.world_laws.proofs.Replicating.LinkFrames.{HasCell, forward_sent, pushed, same_node}
 use Rattle.world_laws.proofs.Merges.LinkTables.{HasLink, delivered_has, link_at_with, same_link_self}
 use Rattle.world_laws.proofs.ComesOver.Live.{Live}
-use Rattle.world_laws.proofs.ComesOver.LiveSender.{LeavesCursor, left_writes}
+use Rattle.world_laws.proofs.ComesOver.LiveReplicator.{LeavesCursor, left_writes}
 use Rattle.world_laws.proofs.Replicating.PairEvents.{from_change, own_change}
 use Rattle.world_laws.proofs.Replicating.PairRoles.{in_change, out_change}
 use Rattle.world_laws.proofs.Replicating.Reach.{Incoming, IncomingChange, IncomingOut, IncomingPeer, IncomingWrite, Outgoing, OutgoingChange, OutgoingOut, OutgoingPeer, OutgoingWrite}
 use Rattle.world_laws.proofs.Replicating.ReceiverSide.{LeavesSession, left_sessions}
-use Rattle.world_laws.proofs.Replicating.SenderSide.{LeavesSender, left_all}
+use Rattle.world_laws.proofs.Replicating.ReplicatorSide.{LeavesReplicator, left_all}
 use Rattle.world_laws.proofs.Walks.Shapes.{Taken}
 use Rattle.world_laws.proofs.Replicating.Sizes.{IsThere, Sized, node_there}
 use Rattle.world_laws.proofs.ComesOver.Waiting.{all_sent}
@@ -35,16 +35,16 @@ use Rattle.world_laws.proofs.Walks.Walk.{by_test, left, right}
 -- the session of a pair, of lists of brokers and tables of links
 abbrev pub LiveAt : Setup → List Broker → Links → ℕ → ℕ → ℕ → Type 0
 LiveAt s bs ls t x y =
-    Live x (topic_name s t) (sender_at (slice_index_or bs (node s t x) no_broker) y) (receiver_at (slice_index_or bs (node s t y) no_broker) x)
+    Live x (topic_name s t) (replicator_at (slice_index_or bs (node s t x) no_broker) y) (receiver_at (slice_index_or bs (node s t y) no_broker) x)
     (link_at ls (Forward (node s t x) y)) (link_at ls (Back (node s t x) y))
 
 abbrev pub LiveIn : Setup → World → ℕ → ℕ → ℕ → Type 0
 LiveIn s w t x y = LiveAt s w.brokers w.links t x y
 
 -- the same values by other names
-live_moved : (x : ℕ) (topic : List ℕ) (s s' : Sender) (r r' : Option ℕ) (f f' k k' : Link) → s' ≡ s → r' ≡ r → f' ≡ f → k' ≡ k → Live x topic s r f k → Live x topic s' r' f' k'
+live_moved : (x : ℕ) (topic : List ℕ) (s s' : Replicator) (r r' : Option ℕ) (f f' k k' : Link) → s' ≡ s → r' ≡ r → f' ≡ f → k' ≡ k → Live x topic s r f k → Live x topic s' r' f' k'
 live_moved x topic s s' r r' f f' k k' a b c d h =
-    let S : Sender → Type 0 = λ v. Live x topic v r f k in
+    let S : Replicator → Type 0 = λ v. Live x topic v r f k in
     let R : Option ℕ → Type 0 = λ v. Live x topic s' v f k in
     let F : Link → Type 0 = λ v. Live x topic s' r' v k in
     let K : Link → Type 0 = λ v. Live x topic s' r' f' v in
@@ -110,7 +110,7 @@ taken_other (Some j) ls k h = with_other ls j _ k h
 pub taken_one : (ls : Links) (k : LinkName) → HasLink ls k → link_at (taken_from (Some k) ls) k ≡ took (link_at ls k)
 taken_one ls k h = link_at_with ls k (took (link_at ls k)) k h ∙ ap (λ (b : Bool). if b then took (link_at ls k) else link_at ls k) (same_link_self k)
 
--- the links that an event of the sender to z sends on
+-- the links that an event of the replicator to z sends on
 out_forward : (s : Setup) (u v z t x y : ℕ) (to : Peer) → is_it s u v z t x y ≡ false → OutgoingPeer z to → same_link (from_broker s u v to) (Forward (node s t x) y) ≡ false
 out_forward s u v z t x y (peer.Forward c) other h = ap (λ (k : ℕ). is_it s u v k t x y) h ∙ other
 out_forward s u v z t x y (peer.Back c) other h = absurd h
@@ -167,22 +167,22 @@ take_answers s t y stamp h b x p q ls has (Taken.Repeats id seq source e is at m
 -- BROKERS
 
 out_write : (own y z : ℕ) → (z ≡ y → ⊥) → (w : Write) → OutgoingWrite own z w → LeavesCursor y w
-out_write own y z other (write.SenderAck v i) h = λ is. other (sym h ∙ is)
+out_write own y z other (write.ReplicatorAck v i) h = λ is. other (sym h ∙ is)
 out_write own y z other (write.SessionNumber v n) h = λ is. other (sym h ∙ is)
 out_write own y z other (write.Append e) h = tt
 out_write own y z other w h = tt
 
 in_write : (y z : ℕ) (w : Write) → IncomingWrite z w → LeavesCursor y w
-in_write y z (write.SenderAck v i) h = absurd h
+in_write y z (write.ReplicatorAck v i) h = absurd h
 in_write y z (write.SessionNumber v n) h = absurd h
 in_write y z (write.Append e) h = tt
 in_write y z w h = tt
 
--- a plan that leaves the sender to y, and one that leaves the session from x
-sender_left : (per y : ℕ) (b : Broker) (p : Plan) → y < length b.senders → Each (LeavesCursor y) p.writes → Each (LeavesSender y) p.changes
-    → sender_at (done per b p) y ≡ sender_at b y
-sender_left per y b p lt writes changes =
-    done_sender per b y p lt ∙ (left_all y (sender_after y (sender_at b y) p.writes) p.changes changes ∙ left_writes y (sender_at b y) p.writes writes)
+-- a plan that leaves the replicator to y, and one that leaves the session from x
+replicator_left : (per y : ℕ) (b : Broker) (p : Plan) → y < length b.replicators → Each (LeavesCursor y) p.writes → Each (LeavesReplicator y) p.changes
+    → replicator_at (done per b p) y ≡ replicator_at b y
+replicator_left per y b p lt writes changes =
+    done_replicator per b y p lt ∙ (left_all y (replicator_after y (replicator_at b y) p.writes) p.changes changes ∙ left_writes y (replicator_at b y) p.writes writes)
 
 session_left : (per x : ℕ) (b : Broker) (p : Plan) → x < length b.receivers → Each (LeavesSession x) p.changes → receiver_at (done per b p) x ≡ receiver_at b x
 session_left per x b p lt changes = done_session per b x p lt ∙ left_sessions x (receiver_at b x) p.changes changes
@@ -191,17 +191,17 @@ session_left per x b p lt changes = done_session per b x p lt ∙ left_sessions 
 abbrev pub after_done : Setup → World → Planned → List Broker
 after_done s w p = slice_set w.brokers (node s p.topic p.cluster) (done s.per_ledger (topic_at s w p.topic p.cluster) p.plan)
 
-sender_kept : (s : Setup) (w : World) (p : Planned) (t x y : ℕ) → Sized s w → IsThere s t x → y < length s.clusters
-    → (node s p.topic p.cluster ≡ node s t x → Each (LeavesCursor y) p.plan.writes × Each (LeavesSender y) p.plan.changes)
-    → sender_at (slice_index_or (after_done s w p) (node s t x) no_broker) y ≡ sender_at (topic_at s w t x) y
-sender_kept s w p t x y z there ly leaves =
-    at_set (λ (c : Broker). sender_at c y ≡ sender_at (topic_at s w t x) y) w.brokers (node s p.topic p.cluster) (node s t x)
+replicator_kept : (s : Setup) (w : World) (p : Planned) (t x y : ℕ) → Sized s w → IsThere s t x → y < length s.clusters
+    → (node s p.topic p.cluster ≡ node s t x → Each (LeavesCursor y) p.plan.writes × Each (LeavesReplicator y) p.plan.changes)
+    → replicator_at (slice_index_or (after_done s w p) (node s t x) no_broker) y ≡ replicator_at (topic_at s w t x) y
+replicator_kept s w p t x y z there ly leaves =
+    at_set (λ (c : Broker). replicator_at c y ≡ replicator_at (topic_at s w t x) y) w.brokers (node s p.topic p.cluster) (node s t x)
     (done s.per_ledger (topic_at s w p.topic p.cluster) p.plan) no_broker
     (λ is.
-    let wide = ap (λ (k : ℕ). length (broker_at w k).senders) is in
+    let wide = ap (λ (k : ℕ). length (broker_at w k).replicators) is in
     let l = leaves is in
-    let lt : y < length (topic_at s w p.topic p.cluster).senders = omega (arith, ly, wide, (z.wide t x there).senders) in
-    sender_left s.per_ledger y (topic_at s w p.topic p.cluster) p.plan lt l.0 l.1 ∙ ap (λ (k : ℕ). sender_at (broker_at w k) y) is)
+    let lt : y < length (topic_at s w p.topic p.cluster).replicators = omega (arith, ly, wide, (z.wide t x there).replicators) in
+    replicator_left s.per_ledger y (topic_at s w p.topic p.cluster) p.plan lt l.0 l.1 ∙ ap (λ (k : ℕ). replicator_at (broker_at w k) y) is)
     refl
 
 session_kept : (s : Setup) (w : World) (p : Planned) (t x y : ℕ) → Sized s w → IsThere s t y → x < length s.clusters
@@ -219,10 +219,10 @@ session_kept s w p t x y z there lx leaves =
 outgoing_session : (own z x : ℕ) (p : Plan) → Outgoing own z p → Each (LeavesSession x) p.changes
 outgoing_session own z x p o = each_map (OutgoingChange z) (LeavesSession x) (own_change x z) p.changes o.changes
 
-incoming_cursor : (y z : ℕ) (p : Plan) → Incoming z p → Each (LeavesCursor y) p.writes × Each (LeavesSender y) p.changes
+incoming_cursor : (y z : ℕ) (p : Plan) → Incoming z p → Each (LeavesCursor y) p.writes × Each (LeavesReplicator y) p.changes
 incoming_cursor y z p i = (
   each_map (IncomingWrite z) (LeavesCursor y) (in_write y z) p.writes i.writes,
-  each_map (IncomingChange z) (LeavesSender y) (in_change y z) p.changes i.changes,
+  each_map (IncomingChange z) (LeavesReplicator y) (in_change y z) p.changes i.changes,
 )
 
 -- EVENTS
@@ -230,18 +230,18 @@ incoming_cursor y z p i = (
 abbrev pub after_sent : Setup → World → Planned → ℕ → Links
 after_sent s w p stamp = delivered (from_broker s p.topic p.cluster) stamp p.plan.sent w.links
 
--- at the sender to z, of another pair
+-- at the replicator to z, of another pair
 pub outward_else : (s : Setup) (w : World) (p : Planned) (z stamp t x y : ℕ) → Outgoing p.cluster z p.plan → TakesOther p.takes (Forward (node s t x) y)
     → TakesOther p.takes (Back (node s t x) y) → Sized s w → t < length s.topics → ArePair s x y → is_it s p.topic p.cluster z t x y ≡ false → LiveIn s w t x y
     → LiveAt s (after_done s w p) (taken_from p.takes (after_sent s w p stamp)) t x y
 outward_else s w p z stamp t x y o forward back sized lt pair other live =
-    live_moved x (topic_name s t) (sender_at (topic_at s w t x) y) _ (receiver_at (topic_at s w t y) x) _ (link_at w.links (Forward (node s t x) y)) _
+    live_moved x (topic_name s t) (replicator_at (topic_at s w t x) y) _ (receiver_at (topic_at s w t y) x) _ (link_at w.links (Forward (node s t x) y)) _
     (link_at w.links (Back (node s t x) y)) _
-    (sender_kept s w p t x y sized (lt, pair.0) pair.1
+    (replicator_kept s w p t x y sized (lt, pair.0) pair.1
     (λ is.
     let apart : z ≡ y → ⊥ = λ one. not_both (node s p.topic p.cluster == node s t x) (z == y) (eq-eqb _ _ is) (eq-eqb z y one) other in (
       each_map (OutgoingWrite p.cluster z) (LeavesCursor y) (out_write p.cluster y z apart) p.plan.writes o.writes,
-      each_map (OutgoingChange z) (LeavesSender y) (out_change y z apart) p.plan.changes o.changes,
+      each_map (OutgoingChange z) (LeavesReplicator y) (out_change y z apart) p.plan.changes o.changes,
     )))
     (session_kept s w p t x y sized (lt, pair.1) pair.0 (λ is. outgoing_session p.cluster z x p.plan o))
     (taken_other p.takes (after_sent s w p stamp) (Forward (node s t x) y) forward
@@ -257,17 +257,17 @@ pub outward_here : (s : Setup) (w : World) (p : Planned) (y stamp : ℕ) (k : Li
     → Sized s w → p.topic < length s.topics → ArePair s p.cluster y
     → link_at (taken_from p.takes (after_sent s w p stamp)) (Back (node s p.topic p.cluster) y) ≡ k
     → Live p.cluster (topic_name s p.topic)
-    (sender_then y (sender_after y (sender_at (topic_at s w p.topic p.cluster) y) p.plan.writes) p.plan.changes) (receiver_at (topic_at s w p.topic y) p.cluster)
+    (replicator_then y (replicator_after y (replicator_at (topic_at s w p.topic p.cluster) y) p.plan.writes) p.plan.changes) (receiver_at (topic_at s w p.topic y) p.cluster)
     (pushed y stamp (link_at w.links (Forward (node s p.topic p.cluster) y)) p.plan.sent) k
     → LiveAt s (after_done s w p) (taken_from p.takes (after_sent s w p stamp)) p.topic p.cluster y
 outward_here s w p y stamp k o forward sized lt pair back live =
     let n = node s p.topic p.cluster in
     let there : IsThere s p.topic p.cluster = (lt, pair.0) in
     let a = topic_at s w p.topic p.cluster in
-    let wide : y < length a.senders = omega (arith, pair.1, (sized.wide p.topic p.cluster there).senders) in
+    let wide : y < length a.replicators = omega (arith, pair.1, (sized.wide p.topic p.cluster there).replicators) in
     live_moved p.cluster (topic_name s p.topic) _ _ (receiver_at (topic_at s w p.topic y) p.cluster) _ _ _ k _
-    (ap (λ (c : Broker). sender_at c y) (get_or-set_same w.brokers n (done s.per_ledger a p.plan) no_broker (node_there s w p.topic p.cluster sized there))
-    ∙ done_sender s.per_ledger a y p.plan wide)
+    (ap (λ (c : Broker). replicator_at c y) (get_or-set_same w.brokers n (done s.per_ledger a p.plan) no_broker (node_there s w p.topic p.cluster sized there))
+    ∙ done_replicator s.per_ledger a y p.plan wide)
     (session_kept s w p p.topic p.cluster y sized (lt, pair.1) pair.0 (λ is. outgoing_session p.cluster y p.cluster p.plan o))
     (taken_other p.takes (after_sent s w p stamp) (Forward n y) forward
     ∙ forward_sent s p.topic p.cluster y stamp p.plan.sent w.links (sized.cells p.topic p.cluster y there pair.1))
@@ -278,9 +278,9 @@ pub inward_else : (s : Setup) (w : World) (p : Planned) (z stamp t x y : ℕ) �
     → Sized s w → t < length s.topics → ArePair s x y → p.cluster < length s.clusters → is_it s p.topic z p.cluster t x y ≡ false → LiveIn s w t x y
     → LiveAt s (after_done s w p) (taken_from p.takes (after_sent s w p stamp)) t x y
 inward_else s w p z stamp t x y i takes sized lt pair within other live =
-    live_moved x (topic_name s t) (sender_at (topic_at s w t x) y) _ (receiver_at (topic_at s w t y) x) _ (link_at w.links (Forward (node s t x) y)) _
+    live_moved x (topic_name s t) (replicator_at (topic_at s w t x) y) _ (receiver_at (topic_at s w t y) x) _ (link_at w.links (Forward (node s t x) y)) _
     (link_at w.links (Back (node s t x) y)) _
-    (sender_kept s w p t x y sized (lt, pair.0) pair.1 (λ is. incoming_cursor y z p.plan i))
+    (replicator_kept s w p t x y sized (lt, pair.0) pair.1 (λ is. incoming_cursor y z p.plan i))
     (session_kept s w p t x y sized (lt, pair.1) pair.0
     (λ is.
     let same = same_node s p.topic t p.cluster y within pair.1 is in
@@ -299,7 +299,7 @@ inward_else s w p z stamp t x y i takes sized lt pair within other live =
 -- and of its own
 pub inward_here : (s : Setup) (w : World) (t x y stamp : ℕ) (p : Packet) (plan : Plan) → Incoming x plan → Sized s w → t < length s.topics → ArePair s x y
     → HasCell w.links.back (node s t x) y → Taken (site s t y) (topic_at s w t y) x p plan
-    → Live x (topic_name s t) (sender_at (topic_at s w t x) y) (session_then x (receiver_at (topic_at s w t y) x) plan.changes)
+    → Live x (topic_name s t) (replicator_at (topic_at s w t x) y) (session_then x (receiver_at (topic_at s w t y) x) plan.changes)
     (took (link_at w.links (Forward (node s t x) y))) (all_sent stamp (link_at w.links (Back (node s t x) y)) plan.sent)
     → (let q : Planned = record { topic = t; cluster = y; takes = Some (Forward (node s t x) y); plan = plan } in
     LiveAt s (after_done s w q) (taken_from (Some (Forward (node s t x) y)) (after_sent s w q stamp)) t x y)
@@ -309,8 +309,8 @@ inward_here s w t x y stamp p plan i sized lt pair cell_there taken live =
     let b = topic_at s w t y in
     let wide : x < length b.receivers = omega (arith, pair.0, (sized.wide t y (lt, pair.1)).receivers) in
     let ls = after_sent s w q stamp in
-    live_moved x (topic_name s t) (sender_at (topic_at s w t x) y) _ _ _ _ _ _ _
-    (sender_kept s w q t x y sized (lt, pair.0) pair.1 (λ is. incoming_cursor y x plan i))
+    live_moved x (topic_name s t) (replicator_at (topic_at s w t x) y) _ _ _ _ _ _ _
+    (replicator_kept s w q t x y sized (lt, pair.0) pair.1 (λ is. incoming_cursor y x plan i))
     (ap (λ (c : Broker). receiver_at c x) (get_or-set_same w.brokers n (done s.per_ledger b plan) no_broker (node_there s w t y sized (lt, pair.1)))
     ∙ done_session s.per_ledger b x plan wide)
     (taken_one ls (Forward (node s t x) y)

@@ -5,7 +5,7 @@ use Rattle.std.proofs.lemmas.Bool.{eqb-false, eqb-true, false≢true, le-leb}
 use Rattle.world_laws.proofs.Types.{Event, Out, Packet}
 use Rattle.world_laws.proofs.Types.event
 use Rattle.world_laws.proofs.Types.fate
-use Rattle.geo_base.specs.Broker.{receiver_at, sender_at}
+use Rattle.geo_base.specs.Broker.{receiver_at, replicator_at}
 use Rattle.geo_base.specs.Forwarding.{receipt, take_packet}
 use Rattle.geo_base.specs.Happening.{broker_does, does_planned, happens}
 use Rattle.geo_base.specs.Laws.{ArePair}
@@ -16,7 +16,7 @@ use Rattle.geo_base.specs.Reading.{read}
 use Rattle.geo_base.specs.Setup.{Setup, topic_name}
 use Rattle.geo_base.specs.World.{Back, Forward, World, from_broker, link_at, node, site, taken_from, topic_at}
 use Rattle.world_laws.proofs.ComesOver.Backs.{Backs}
-use Rattle.world_laws.proofs.Replicating.Effects.{sender_after, sender_then}
+use Rattle.world_laws.proofs.Replicating.Effects.{replicator_after, replicator_then}
 use Rattle.world_laws.proofs.ComesOver.Fitting.{Fits}
 use Rattle.world_laws.proofs.Induction.Layers.{Both}
 use Rattle.world_laws.proofs.Replicating.LinkFrames.{pushed}
@@ -24,7 +24,7 @@ use Rattle.world_laws.proofs.Merges.LinkTables.{delivered_has}
 use Rattle.world_laws.proofs.Walks.LinkWalk.{frame_taken, packet_answered}
 use Rattle.world_laws.proofs.ComesOver.Live.{FitsLink, Live, live_takes}
 use Rattle.world_laws.proofs.ComesOver.LiveFrames.{LiveAt, LiveIn, after_done, after_sent, by_pair, delivered_other, inward_else, inward_here, outs_back, outward_else, outward_here, taken_one}
-use Rattle.world_laws.proofs.ComesOver.LiveSender.{live_answered, live_reads}
+use Rattle.world_laws.proofs.ComesOver.LiveReplicator.{live_answered, live_reads}
 use Rattle.world_laws.proofs.Budget.Lowering.{InRound, IsPair}
 use Rattle.world_laws.proofs.Replicating.Packets.{IsSend}
 use Rattle.world_laws.proofs.Replicating.Pairs.{Replicates}
@@ -88,7 +88,7 @@ receipt_lasts s w u v z q plan is ground next answered t x y lt pair live =
     let k = link_at w.links (Back (node s u v) z) in
     let L : Link → Type 0 = λ g.
     Live v (topic_name s u)
-    (sender_then z (sender_after z (sender_at (topic_at s w u v) z) plan.writes) plan.changes)
+    (replicator_then z (replicator_after z (replicator_at (topic_at s w u v) z) plan.writes) plan.changes)
     (receiver_at (topic_at s w u z) v) g (took k) in
     outward_here s w p z stamp (took k) out refl ground.0.sized lt pair
     (taken_one (after_sent s w p stamp) (Back (node s u v) z)
@@ -126,7 +126,7 @@ take_lasts s w u z v q plan is ground fits next taken t x y lt pair live =
     (λ lt pair live.
     inward_here s w u z v stamp q plan (fated_in s.per_ledger (site s u v) (topic_at s w u v) z q plan (Fated.Once plan taken)) ground.0.sized lt pair
     (ground.1.cells u z v (lt, pair.0) pair.1) taken
-    (live_takes z (topic_name s u) (site s u v) (topic_at s w u v) (sender_at (topic_at s w u z) v) (link_at w.links (Forward (node s u z) v))
+    (live_takes z (topic_name s u) (site s u v) (topic_at s w u v) (replicator_at (topic_at s w u z) v) (link_at w.links (Forward (node s u z) v))
     (link_at w.links (Back (node s u z) v)) q plan stamp refl next (ground.1.links u z v lt pair).within (fits_link s w u z v q lt pair ground.0 fits next) taken live))
     (λ other lt pair live.
     inward_else s w p z stamp t x y (fated_in s.per_ledger (site s u v) (topic_at s w u v) z q plan (Fated.Once plan taken)) refl ground.0.sized lt pair is.target other live))

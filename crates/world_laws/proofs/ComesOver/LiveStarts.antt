@@ -1,4 +1,4 @@
--- Settling begins a session of each pair: behind all resets each one lives.
+-- Settling begins a session of each pair: after all resets each one lives.
 use Rattle.std.proofs.Common.{◌≡◌, ℕ, zero, suc, ◌+◌, ◌<◌, ◌≤◌, Bool, true, false, List, [], ◌∷◌, ◌++◌, length, refl, sym, ap, subst, ◌∙◌, ◌==◌, arith, inl, inr, ◌⊎◌}
 use Rattle.std.specs.Prelude.{Option, Some, None, ◌&&◌, if◌then◌else◌, nat_lt, not, slice_get}
 use Rattle.std.specs.List.{range_with_len}
@@ -8,7 +8,7 @@ use Rattle.std.proofs.lemmas.Option.{none-some, same_Some}
 use Rattle.world_laws.proofs.Types.{Event, Packet}
 use Rattle.world_laws.proofs.Types.event
 use Rattle.world_laws.proofs.Types.frame
-use Rattle.geo_base.specs.Broker.{receiver_at, sender_at}
+use Rattle.geo_base.specs.Broker.{receiver_at, replicator_at}
 use Rattle.geo_base.specs.Forwarding.{is_remote, link_producer, reset, resets}
 use Rattle.geo_base.specs.Happening.{broker_does, does_planned, happens}
 use Rattle.geo_base.specs.Laws.{ArePair}
@@ -16,11 +16,11 @@ use Rattle.geo_base.specs.Link.{Link, sent_on}
 use Rattle.geo_base.specs.Plan.{Plan, idle_plan}
 use Rattle.geo_base.specs.Planned.{Planned, has_pair, in_range, planned, planned_in}
 use Rattle.geo_base.specs.Run.{Pair, all_settle, no_limits, pairs, pairs_from, pairs_of, pairs_to, resets_of}
-use Rattle.geo_base.specs.Sender.{Sender}
+use Rattle.geo_base.specs.Replicator.{Replicator}
 use Rattle.geo_base.specs.Setup.{Setup, topic_name}
 use Rattle.geo_base.specs.World.{Back, Forward, World, link_at, node, site, topic_at}
 use Rattle.world_laws.proofs.ComesOver.Backs.{Backs, backs_kept}
-use Rattle.world_laws.proofs.Replicating.Effects.{Each, sender_after, sender_then}
+use Rattle.world_laws.proofs.Replicating.Effects.{Each, replicator_after, replicator_then}
 use Rattle.world_laws.proofs.Induction.Layers.{both_kept}
 use Rattle.world_laws.proofs.ComesOver.Live.{IsOpening, Live, asking_begins}
 use Rattle.world_laws.proofs.ComesOver.LiveFrames.{LiveAt, LiveIn, after_done, after_sent, by_pair, delivered_other, outs_back, outward_else, outward_here}
@@ -31,7 +31,7 @@ use Rattle.world_laws.proofs.Replicating.Pairs.{Replicates, replication_kept}
 use Rattle.world_laws.proofs.Replicating.Reach.{Outgoing, resets_out}
 use Rattle.world_laws.proofs.Budget.Rounds.{after, at}
 use Rattle.world_laws.proofs.Induction.Runs.{IsKept, event_done}
-use Rattle.world_laws.proofs.Replicating.SenderEvents.{chosen, reset_sender}
+use Rattle.world_laws.proofs.Replicating.ReplicatorEvents.{chosen, reset_replicator}
 use Rattle.world_laws.proofs.Walks.Walk.{on_true}
 
 pub ground_kept : (s : Setup) → IsKept s (Ground s)
@@ -39,17 +39,17 @@ ground_kept s = both_kept s (Replicates s) (Backs s) (replication_kept s) (backs
 
 -- a reset of a pair
 abbrev resetting : Setup → World → ℕ → ℕ → ℕ → Planned
-resetting s w u v z = record { topic = u; cluster = v; takes = None; plan = resets (site s u v) z ((sender_at (topic_at s w u v) z).session + 1) }
+resetting s w u v z = record { topic = u; cluster = v; takes = None; plan = resets (site s u v) z ((replicator_at (topic_at s w u v) z).session + 1) }
 
 reset_out : (s : Setup) (w : World) (u v z : ℕ) → Outgoing v z (resetting s w u v z).plan
-reset_out s w u v z = resets_out (site s u v) v z ((sender_at (topic_at s w u v) z).session + 1)
+reset_out s w u v z = resets_out (site s u v) v z ((replicator_at (topic_at s w u v) z).session + 1)
 
 -- begins its session
 begins_at : (s : Setup) (w : World) (u v z stamp : ℕ) → IsPair s u v z → Ground s w
     → LiveAt s (after_done s w (resetting s w u v z)) (after_sent s w (resetting s w u v z) stamp) u v z
 begins_at s w u v z stamp is ground =
     let pair = are_pair s u v z is in
-    let t = sender_at (topic_at s w u v) z in
+    let t = replicator_at (topic_at s w u v) z in
     let n = t.session + 1 in
     let f = link_at w.links (Forward (node s u v) z) in
     let k = link_at w.links (Back (node s u v) z) in
@@ -58,12 +58,12 @@ begins_at s w u v z stamp is ground =
     let facts = ground.0.pairs u v z is.topic pair in
     let back = ground.1.links u v z is.topic pair in
     let opens : IsOpening (topic_name s u) n q = record { session = refl; request = n; name = Some (link_producer (site s u v) v); is = refl } in
-    let L : Sender → Link → Type 0 = λ t g. Live v (topic_name s u) t r g k in
+    let L : Replicator → Link → Type 0 = λ t g. Live v (topic_name s u) t r g k in
     let p = resetting s w u v z in
     outward_here s w p z stamp k (reset_out s w u v z) tt ground.0.sized is.topic pair
     (delivered_other s u v stamp p.plan.sent w.links (Back (node s u v) z) (outs_back s u v v z (node s u v) z p.plan (reset_out s w u v z)))
-    (subst (λ (g : Link). L (sender_then z (sender_after z t p.plan.writes) p.plan.changes) g) (sym (chosen z (sent_on f q) f))
-    (subst (λ (t : Sender). L t (sent_on f q)) (sym (reset_sender z n t))
+    (subst (λ (g : Link). L (replicator_then z (replicator_after z t p.plan.writes) p.plan.changes) g) (sym (chosen z (sent_on f q) f))
+    (subst (λ (t : Replicator). L t (sent_on f q)) (sym (reset_replicator z n t))
     (asking_begins v (topic_name s u) t r f k q opens facts.receiving.within facts.session.bounded back.bounded)))
 
 -- and leaves those of others
@@ -99,7 +99,7 @@ reset_is s w u v z is =
     planned_is s w (event.Reset u v z) (pair_in_range s u v z is)
     ∙ ap (λ (q : Plan). Some (record { topic = u; cluster = v; takes = None; plan = q })) (on_true (is_remote (site s u v) z) _ idle_plan (remote s u v z is))
 
--- the world behind it
+-- the world after it
 abbrev after_reset : Setup → World → Pair → World
 after_reset s w p = after s w (event.Reset p.topic p.source p.target)
 
@@ -131,7 +131,7 @@ ground_after s w e h = let k = ground_kept s in k.idle (happens s w e) w.idle (e
 abbrev pub pair_of : ℕ → ℕ → ℕ → Pair
 pair_of t x y = record { topic = t; source = x; target = y }
 
--- behind the resets of some pairs the sessions of these live, and those that lived before
+-- after the resets of some pairs the sessions of these live, and those that lived before
 resets_live : (s : Setup) (ps : List Pair) (w : World) → Each (λ p. IsPair s p.topic p.source p.target) ps → Ground s w → (t x y : ℕ) → t < length s.topics → ArePair s x y
     → Stands ps (pair_of t x y) ⊎ LiveIn s w t x y → LiveIn s (all_settle no_limits s (at w) (resets_of ps)).world t x y
 resets_live s [] w all ground t x y lt pair (inl stands) = absurd (none-some (pair_of t x y) stands.is)

@@ -1,22 +1,22 @@
--- In a quiet world no packet is under way on a link between clusters, and a sender whose session is open has nothing left to read.
+-- In a quiet world no packet is under way on a link between clusters, and a replicator whose session is open has nothing left to read.
 use Rattle.std.proofs.Common.{◌≡◌, ℕ, zero, suc, ◌+◌, ◌-◌, ◌<◌, ◌≤◌, Bool, true, false, List, [], ◌∷◌, length, refl, sym, ap, subst, ◌∙◌, ◌==◌, arith}
 use Rattle.std.specs.Prelude.{Option, Some, None, ◌&&◌, if◌then◌else◌, slice_get}
 use Rattle.std.specs.List.{list_all}
 use Rattle.std.proofs.lemmas.Bool.{eqb-true, false≢true}
 use Rattle.std.proofs.lemmas.Bool.Decides.{nat_tests}
 use Rattle.std.proofs.lemmas.Option.{none-some, same_Some}
-use Rattle.world_laws.proofs.Types.{Builder, ClusterPosition, Content, Entry, Marker, Packet, Progress, SenderState}
+use Rattle.world_laws.proofs.Types.{SnapshotBuilder, ClusterPosition, Content, Entry, Marker, Packet, Progress, ReplicatorState}
 use Rattle.world_laws.proofs.Types.change
 use Rattle.world_laws.proofs.Types.content
 use Rattle.world_laws.proofs.Types.event
 use Rattle.world_laws.proofs.Types.fate
 use Rattle.world_laws.proofs.Types.marker
 use Rattle.world_laws.proofs.Types.progress
-use Rattle.world_laws.proofs.Types.sender_state
-use Rattle.geo_base.specs.Broker.{Broker, Site, sender_at, sub_named}
-use Rattle.geo_base.specs.Builder.{on_response}
+use Rattle.world_laws.proofs.Types.replicator_state
+use Rattle.geo_base.specs.Broker.{Broker, Site, replicator_at, sub_named}
+use Rattle.geo_base.specs.SnapshotBuilder.{on_response}
 use Rattle.geo_base.specs.Cursor.{has, next_open}
-use Rattle.geo_base.specs.Entry.{is_outbound, is_place}
+use Rattle.geo_base.specs.Entry.{is_outbound, means_cluster}
 use Rattle.geo_base.specs.Forwarding.{is_remote, receipt, take_packet}
 use Rattle.geo_base.specs.Happening.{broker_does, does_planned, happens, idles}
 use Rattle.geo_base.specs.Laws.{ArePair}
@@ -27,11 +27,11 @@ use Rattle.geo_base.specs.Plan.{Plan, idle_plan}
 use Rattle.geo_base.specs.Planned.{Planned}
 use Rattle.geo_base.specs.Reading.{forwards, read, read_at, read_entry}
 use Rattle.geo_base.specs.Run.{Pair, is_idle, is_quiet, pairs, round_of}
-use Rattle.geo_base.specs.Sender.{index_to_read}
+use Rattle.geo_base.specs.Replicator.{index_to_read}
 use Rattle.geo_base.specs.Setup.{Setup}
 use Rattle.geo_base.specs.Subscribing.{has_room}
 use Rattle.geo_base.specs.Topic.{position_at}
-use Rattle.geo_base.specs.Updating.{handled, only_index, passed_over, passing, positions_for, read_update}
+use Rattle.geo_base.specs.Updating.{handled, only_index, updated_indexes, update_writes, positions_for, read_update}
 use Rattle.geo_base.specs.World.{Back, Forward, World, link_at, node, site, topic_at}
 use Rattle.world_laws.proofs.Replicating.Cursors.{next_is}
 use Rattle.world_laws.proofs.Walks.LinkWalk.{answered_acts, frame_taken, packet_answered, taken_acts}
@@ -127,23 +127,23 @@ none_received h b y (Some p) idle = absurd (false≢true (sym (answered_acts b y
 abbrev Acts : Plan → Type 0
 Acts p = p.idle ≡ false
 
-after_acts : (h : Site) (b : Broker) (y i : ℕ) (g : Progress) (u : Builder) → Acts (after_response h b y i g u)
+after_acts : (h : Site) (b : Broker) (y i : ℕ) (g : Progress) (u : SnapshotBuilder) → Acts (after_response h b y i g u)
 after_acts h b y i progress.Ignored u = refl
 after_acts h b y i progress.Kept u = refl
 after_acts h b y i progress.SecondRound u = refl
 after_acts h b y i progress.Done u = refl
 
-response_acts : (h : Site) (b : Broker) (y i : ℕ) (id : List ℕ) (answer : ClusterPosition) (o : Option Builder) → Acts (read_response h b y i id answer o)
+response_acts : (h : Site) (b : Broker) (y i : ℕ) (id : List ℕ) (answer : ClusterPosition) (o : Option SnapshotBuilder) → Acts (read_response h b y i id answer o)
 response_acts h b y i id answer None = refl
 response_acts h b y i id answer (Some u) =
-    on_if Acts (is_place y answer.cluster) (heard_from h b y i (on_response u id y answer.position (position_at b.ledgers i))) (handled y i [] [])
+    on_if Acts (means_cluster y answer.cluster) (heard_from h b y i (on_response u id y answer.position (position_at b.ledgers i))) (handled y i [] [])
     (after_acts h b y i _ _) refl
 
 update_acts : (h : Site) (b : Broker) (y i : ℕ) (n : List ℕ) (remote : List ClusterPosition) → Acts (read_update h b y i n remote)
 update_acts h b y i n remote =
     on_found Acts (handled y i [] []) (only_index b.ledgers (positions_for h.own remote)) _ (λ _. refl)
     (λ j _.
-    on_if Acts (is_name n && has_room b n) (handled y i (passing h b n (passed_over y 0 (j + 1) b.entries) (sub_named b.subs n)) (change.Acked n ∷ []))
+    on_if Acts (is_name n && has_room b n) (handled y i (update_writes h b n (updated_indexes y 0 (j + 1) b.entries) (sub_named b.subs n)) (change.Acked n ∷ []))
     (handled y i [] []) refl refl)
 
 marker_acts : (h : Site) (b : Broker) (y i : ℕ) (m : Marker) → Acts (read_marker h b y i m)
@@ -159,7 +159,7 @@ content_acts h b y i (content.Unread kind) = refl
 
 entry_acts : (h : Site) (b : Broker) (y i : ℕ) (e : Entry) → Acts (read_entry h b y i (Some e))
 entry_acts h b y i e =
-    on_if Acts (is_outbound h.own y e) (forwards h y (sender_at b y) i e) (if e.ident.origin == y then read_content h b y i e.content else handled y i [] []) refl
+    on_if Acts (is_outbound h.own y e) (forwards h y (replicator_at b y) i e) (if e.ident.origin == y then read_content h b y i e.content else handled y i [] []) refl
     (on_if Acts (e.ident.origin == y) (read_content h b y i e.content) (handled y i [] []) (content_acts h b y i e.content) refl)
 
 index_idles : (h : Site) (b : Broker) (y : ℕ) (o : Option ℕ) → ((i : ℕ) → o ≡ Some i → i < length b.entries) → (read_at h b y o).idle ≡ true → o ≡ None
@@ -183,15 +183,15 @@ none_open set from (suc more) none j low high = by (has set from) refl none (λ 
         at true e = ap (has set) (sym (eqb-true from j e)) ∙ is
         at false e = ih none (grind (arith, nat_tests, e, low))
 
-all_read : (h : Site) (b : Broker) (y : ℕ) → is_remote h y ≡ true → (sender_at b y).state ≡ sender_state.Open → (sender_at b y).read_index ≤ length b.entries
-    → (read h b y).idle ≡ true → (j : ℕ) → (sender_at b y).read_index ≤ j → j < length b.entries → has (sender_at b y).cursor j ≡ true
+all_read : (h : Site) (b : Broker) (y : ℕ) → is_remote h y ≡ true → (replicator_at b y).state ≡ replicator_state.Open → (replicator_at b y).read_index ≤ length b.entries
+    → (read h b y).idle ≡ true → (j : ℕ) → (replicator_at b y).read_index ≤ j → j < length b.entries → has (replicator_at b y).cursor j ≡ true
 unfolding read
 all_read h b y remote state within idle j low high =
-    let s = sender_at b y in
+    let s = replicator_at b y in
     let n = length b.entries - s.read_index in
     let P : Plan → Type 0 = λ p. p.idle ≡ true in
     let o = next_open s.cursor s.read_index n in
-    let next : index_to_read s.state s (length b.entries) ≡ o = ap (λ (u : SenderState). index_to_read u s (length b.entries)) state in
+    let next : index_to_read s.state s (length b.entries) ≡ o = ap (λ (u : ReplicatorState). index_to_read u s (length b.entries)) state in
     let at : (read_at h b y o).idle ≡ true =
     subst (λ (v : Option ℕ). (read_at h b y v).idle ≡ true) next
     (subst P (on_true (is_remote h y) (read_at h b y (index_to_read s.state s (length b.entries))) idle_plan remote) idle) in
@@ -202,8 +202,8 @@ all_read h b y remote state within idle j low high =
 pub record IsStill (s : Setup) (w : World) (t x y : ℕ) : Type 0 where
   pub forward : next_packet (link_at w.links (Forward (node s t x) y)) ≡ None
   pub back : next_packet (link_at w.links (Back (node s t x) y)) ≡ None
-  pub read : (sender_at (topic_at s w t x) y).state ≡ sender_state.Open → (sender_at (topic_at s w t x) y).read_index ≤ length (topic_at s w t x).entries
-      → (j : ℕ) → (sender_at (topic_at s w t x) y).read_index ≤ j → j < length (topic_at s w t x).entries → has (sender_at (topic_at s w t x) y).cursor j ≡ true
+  pub read : (replicator_at (topic_at s w t x) y).state ≡ replicator_state.Open → (replicator_at (topic_at s w t x) y).read_index ≤ length (topic_at s w t x).entries
+      → (j : ℕ) → (replicator_at (topic_at s w t x) y).read_index ≤ j → j < length (topic_at s w t x).entries → has (replicator_at (topic_at s w t x) y).cursor j ≡ true
 
 pub pair_still : (s : Setup) (w : World) (t x y : ℕ) → IsPair s t x y → ArePair s x y → is_quiet s w ≡ true → IsStill s w t x y
 pair_still s w t x y is pair quiet =

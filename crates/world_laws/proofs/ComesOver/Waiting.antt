@@ -1,14 +1,15 @@
 -- The packets that wait on a link: what sending and taking makes of them.
-use Rattle.std.proofs.Common.{◌≡◌, ℕ, zero, suc, ◌+◌, ◌≤◌, Bool, true, false, List, [], ◌∷◌, length, refl, sym, ap, subst, ◌∙◌, ◌==◌, arith, inl, inr, ◌⊎◌}
+use Rattle.std.proofs.Common.{◌≡◌, ℕ, ◌+◌, ◌≤◌, Bool, true, false, List, [], ◌∷◌, length, refl, sym, ap, subst, ◌∙◌, ◌==◌, arith, inl, inr, ◌⊎◌}
 use Rattle.std.specs.Prelude.{Some, None, slice_get}
 use Rattle.std.proofs.lemmas.Bool.{eqb-true}
 use Rattle.std.proofs.lemmas.Bool.Decides.{nat_tests}
-use Rattle.std.proofs.lemmas.Option.{none-some, same_Some, slice_get_within}
+use Rattle.std.proofs.lemmas.Option.{same_Some, slice_get_within}
 use Rattle.world_laws.proofs.Types.{Out, Packet}
 use Rattle.geo_base.specs.Link.{Link, next_packet, sent_on, took}
 use Rattle.geo_base.specs.World.{stamped}
 use Rattle.world_laws.proofs.Replicating.Effects.{Each}
 use Rattle.world_laws.proofs.OnceInOrder.Members.{get_last, get_left, get_push}
+pub use Rattle.geo_base.proofs.Lists.{get_none_past as past_end}
 
 -- a packet was sent and is not taken yet
 pub record Waiting (l : Link) (p : Packet) : Type 0 where
@@ -45,11 +46,6 @@ still_comes l P p next other c =
       | inl same ↦ absurd (other (subst P (sym same) c.is))
       | inr w ↦ record { packet = c.packet; waits = w; is = c.is }
     ]
-
-pub past_end : {X : Type 0} (ps : List X) (n : ℕ) → slice_get ps n ≡ None → length ps ≤ n
-past_end [] n h = omega arith
-past_end (p ∷ ps) zero h = absurd (none-some p (sym h))
-past_end (p ∷ ps) (suc n) h = let r = past_end ps n h in omega (arith, r)
 
 -- none waits where none is next
 pub none_waits : (l : Link) (u : Packet) → next_packet l ≡ None → Waiting l u → ⊥

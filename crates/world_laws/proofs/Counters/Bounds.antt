@@ -7,7 +7,7 @@ use Rattle.world_laws.proofs.Types.{Event, Frame, Held, Ident, Line, Out, Packet
 use Rattle.world_laws.proofs.Types.event
 use Rattle.world_laws.proofs.Types.frame
 use Rattle.world_laws.proofs.Types.line
-use Rattle.world_laws.proofs.Types.place
+use Rattle.world_laws.proofs.Types.cluster_ref
 use Rattle.geo_base.specs.Broker.{no_broker, new_broker}
 use Rattle.geo_base.specs.Client.{Acted, Client, connected_to, new_client, reconnect}
 use Rattle.geo_base.specs.Getting.{answered, get, got_frame, is_duplicate, is_number, publishes, received, with_error, with_receipt}
@@ -15,11 +15,11 @@ use Rattle.geo_base.specs.Going.{acks_all, acks_one, acks_to, first_held, go, go
 use Rattle.geo_base.specs.Happening.{broker_does, client_does, does_planned, happens, next_stamp, stamp_of}
 use Rattle.geo_base.specs.Link.{Link, next_packet, no_link, sent_on, took}
 use Rattle.geo_base.specs.Planned.{Planned, has_client, planned}
-use Rattle.geo_base.specs.Sender.{new_sender}
+use Rattle.geo_base.specs.Replicator.{new_replicator}
 use Rattle.geo_base.specs.Setup.{Declared, Setup, declared_at}
 use Rattle.geo_base.specs.World.{Back, Forward, LinkName, Links, ToBroker, ToClient, World, cell, delivered, link_at, node, opening_world, packet_at, stamped, table, taken_from, with_link}
-use Rattle.world_laws.specs.Within.{ClientWithin, SenderWithin, SendersWithin, StampsWithin, WorldWithin}
-use Rattle.world_laws.proofs.Counters.Calm.{sender_more, shape_raises}
+use Rattle.world_laws.specs.Within.{ClientWithin, ReplicatorWithin, ReplicatorsWithin, StampsWithin, WorldWithin}
+use Rattle.world_laws.proofs.Counters.Calm.{replicator_more, shape_raises}
 use Rattle.world_laws.proofs.Walks.EventWalk.{HasShape, planned_shape}
 use Rattle.world_laws.proofs.Induction.Frames.{at_copies, at_set, cell_set}
 use Rattle.world_laws.proofs.OnceInOrder.Members.{get_push}
@@ -85,7 +85,7 @@ clocks_set n xs i z v h k = at_set (λ (m : ℕ). m ≤ n) xs i z v 0 (λ _. h) 
 idles_within : (s : Setup) (n : ℕ) (w : World) → WorldWithin s n w → WorldWithin s (n + 1) (record w { idle = w.idle + 1 })
 idles_within s n w h = record {
   count = omega (arith, h.count);
-  senders = λ z y. sender_more n _ (h.senders z y);
+  replicators = λ z y. replicator_more n _ (h.replicators z y);
   clients = λ c. client_more n _ (h.clients c);
   broker_clocks = λ z. omega (arith, h.broker_clocks z);
   client_clocks = λ c. omega (arith, h.client_clocks c);
@@ -100,8 +100,8 @@ does_within s n w p shape h =
     let fits : stamp ≤ n + 1 = next_within n _ (packet_at w.links p.takes) (h.broker_clocks place) (packet_within n w.links p.takes h.stamps) in
     on_if (WorldWithin s (n + 1)) p.plan.idle _ _ (idles_within s n w h) (record {
       count = omega (arith, h.count);
-      senders = λ z. at_set (λ b. SendersWithin (n + 1) b.senders) w.brokers place z _ no_broker
-          (λ _. shape_raises s w n p shape (h.senders place)) (λ y. sender_more n _ (h.senders z y));
+      replicators = λ z. at_set (λ b. ReplicatorsWithin (n + 1) b.replicators) w.brokers place z _ no_broker
+          (λ _. shape_raises s w n p shape (h.replicators place)) (λ y. replicator_more n _ (h.replicators z y));
       clients = λ c. client_more n _ (h.clients c);
       broker_clocks = λ z. clocks_set (n + 1) w.broker_clocks place z stamp fits (omega (arith, h.broker_clocks z));
       client_clocks = λ c. omega (arith, h.client_clocks c);
@@ -121,7 +121,7 @@ client_within s n w c k a raised h =
     let fits : stamp ≤ n + 1 = next_within n _ (packet_at w.links k) (h.client_clocks c) (packet_within n w.links k h.stamps) in
     on_if (WorldWithin s (n + 1)) a.idle _ _ (idles_within s n w h) (record {
       count = omega (arith, h.count);
-      senders = λ z y. sender_more n _ (h.senders z y);
+      replicators = λ z y. replicator_more n _ (h.replicators z y);
       clients = λ d. at_set (ClientWithin (n + 1)) w.clients c d a.client (new_client (declared_at s d)) (λ _. raised) (client_more n _ (h.clients d));
       broker_clocks = λ z. omega (arith, h.broker_clocks z);
       client_clocks = λ d. clocks_set (n + 1) w.client_clocks c d stamp fits (omega (arith, h.client_clocks d));
@@ -214,8 +214,8 @@ got_frame_within n d k (frame.SendReceipt id m p) w = answered_within n d k m _ 
 got_frame_within n d k (frame.SendError id m code) w = answered_within n d k m _ w (error_within n k w)
 got_frame_within n d k (frame.Error request code) w = error_within n k w
 got_frame_within n d k (frame.Message id p None e) w = received_within n k id _ p w
-got_frame_within n d k (frame.Message id p (Some (place.Known x)) e) w = received_within n k id _ p w
-got_frame_within n d k (frame.Message id p (Some (place.Stranger name)) e) w = client_more n k w
+got_frame_within n d k (frame.Message id p (Some (cluster_ref.Known x)) e) w = received_within n k id _ p w
+got_frame_within n d k (frame.Message id p (Some (cluster_ref.Stranger name)) e) w = client_more n k w
 got_frame_within n d k f w = client_more n k w
 
 pub get_within : (n : ℕ) (d : Declared) (k : Client) (o : Option Packet) → ClientWithin n k → ActedWithin (n + 1) (get d k o)
@@ -260,16 +260,16 @@ opening_stamps s (Back n y) = table_within (length s.topics * length s.clusters)
 opening_stamps s (ToBroker c x) = table_within (length s.clients) (length s.clusters) c x
 opening_stamps s (ToClient c x) = table_within (length s.clients) (length s.clusters) c x
 
-new_senders_within : (n y : ℕ) → SenderWithin 0 (slice_index_or (replicate n new_sender) y new_sender)
-new_senders_within n y =
-    let new : SenderWithin 0 new_sender = record { session = omega arith; next = omega arith } in
-    at_copies (SenderWithin 0) n y new_sender new_sender new new
+new_replicators_within : (n y : ℕ) → ReplicatorWithin 0 (slice_index_or (replicate n new_replicator) y new_replicator)
+new_replicators_within n y =
+    let new : ReplicatorWithin 0 new_replicator = record { session = omega arith; next = omega arith } in
+    at_copies (ReplicatorWithin 0) n y new_replicator new_replicator new new
 
 pub opening_within : (s : Setup) → WorldWithin s 0 (opening_world s)
 opening_within s = record {
   count = omega arith;
-  senders = λ z. at_copies (λ b. SendersWithin 0 b.senders) (length s.topics * length s.clusters) z (new_broker (length s.clusters) (length s.clients)) no_broker
-      (new_senders_within (length s.clusters)) (new_senders_within 0);
+  replicators = λ z. at_copies (λ b. ReplicatorsWithin 0 b.replicators) (length s.topics * length s.clusters) z (new_broker (length s.clusters) (length s.clients)) no_broker
+      (new_replicators_within (length s.clusters)) (new_replicators_within 0);
   clients = λ c. new_clients_within s.clients c _ (new_within (declared_at s c));
   broker_clocks = λ z. at_copies (λ (m : ℕ). m ≤ 0) (length s.topics * length s.clusters) z 0 0 (omega arith) (omega arith);
   client_clocks = λ c. at_copies (λ (m : ℕ). m ≤ 0) (length s.clients) c 0 0 (omega arith) (omega arith);
@@ -280,7 +280,7 @@ opening_within s = record {
 pub within_more : (s : Setup) (n m : ℕ) (w : World) → n ≤ m → WorldWithin s n w → WorldWithin s m w
 within_more s n m w le h = record {
   count = omega (arith, h.count);
-  senders = λ z y. record { session = omega (arith, (h.senders z y).session); next = omega (arith, (h.senders z y).next) };
+  replicators = λ z y. record { session = omega (arith, (h.replicators z y).session); next = omega (arith, (h.replicators z y).next) };
   clients = λ c. record {
     connection = omega (arith, (h.clients c).connection);
     receipts = omega (arith, (h.clients c).receipts);

@@ -1,4 +1,4 @@
--- Plans and the numbers of senders. A calm plan begins no session and sends no entry, so it raises none; any plan raises one at
+-- Plans and the numbers of replicators. A calm plan begins no session and sends no entry, so it raises none; any plan raises one at
 -- most by one.
 use Rattle.std.proofs.Common.{◌≡◌, ℕ, ◌+◌, Bool, true, false, List, [], ◌∷◌, ◌++◌, refl, arith}
 use Rattle.std.proofs.lemmas.Bool.{false≢true}
@@ -6,23 +6,23 @@ use Rattle.std.specs.Prelude.{Option, None, is_some}
 use Rattle.world_laws.proofs.Types.{Change, Packet, Position, SubKind, Write}
 use Rattle.world_laws.proofs.Types.change
 use Rattle.world_laws.proofs.Types.write
-use Rattle.geo_base.specs.Broker.{Broker, Site, changed, sender_at, sub_named, written}
+use Rattle.geo_base.specs.Broker.{Broker, Site, changed, replicator_at, sub_named, written}
 use Rattle.geo_base.specs.Forwarding.{closes}
 use Rattle.geo_base.specs.Plan.{Plan, all_changed, all_written, done, idle_plan, quiet_plan}
 use Rattle.geo_base.specs.Planned.{Planned}
 use Rattle.geo_base.specs.Seeking.{restart}
-use Rattle.geo_base.specs.Sender.{Sender, new_sender, sender_restarted}
+use Rattle.geo_base.specs.Replicator.{Replicator, new_replicator, replicator_restarted}
 use Rattle.geo_base.specs.Serving.{session_becomes}
 use Rattle.geo_base.specs.Setup.{Setup, declared_at}
 use Rattle.geo_base.specs.Subscription.{Subscription}
 use Rattle.geo_base.specs.World.{World, site, topic_at}
-use Rattle.world_laws.specs.Within.{SenderWithin, SendersWithin}
+use Rattle.world_laws.specs.Within.{ReplicatorWithin, ReplicatorsWithin}
 use Rattle.world_laws.proofs.Induction.Frames.{at_map, at_set}
 use Rattle.world_laws.proofs.Walks.Shapes.{Answered, Fated, Offers, Reads, Seeks, Served, Shape, Snaps, Taken, Updates}
 use Rattle.world_laws.proofs.Walks.Walk.{on_if}
 
-pub sender_more : (n : ℕ) (s : Sender) → SenderWithin n s → SenderWithin (n + 1) s
-sender_more n s w = record { session = omega (arith, w.session); next = omega (arith, w.next) }
+pub replicator_more : (n : ℕ) (s : Replicator) → ReplicatorWithin n s → ReplicatorWithin (n + 1) s
+replicator_more n s w = record { session = omega (arith, w.session); next = omega (arith, w.next) }
 
 abbrev pub calm_writes : List Write → Bool
 calm_writes [] = true
@@ -38,11 +38,11 @@ pub record IsCalm (p : Plan) : Type 0 where
   pub writes : calm_writes p.writes ≡ true
   pub changes : calm_changes p.changes ≡ true
 
-created : (per n : ℕ) (b : Broker) (name : List ℕ) (kind : SubKind) (replicated latest : Bool) → SendersWithin n b.senders
-    → SendersWithin n (written per b (write.Create name kind replicated latest)).senders
-created per n b name kind replicated latest h = on_if (λ (c : Broker). SendersWithin n c.senders) (is_some (sub_named b.subs name)) _ _ h h
+created : (per n : ℕ) (b : Broker) (name : List ℕ) (kind : SubKind) (replicated latest : Bool) → ReplicatorsWithin n b.replicators
+    → ReplicatorsWithin n (written per b (write.Create name kind replicated latest)).replicators
+created per n b name kind replicated latest h = on_if (λ (c : Broker). ReplicatorsWithin n c.replicators) (is_some (sub_named b.subs name)) _ _ h h
 
-calm_written : (per n : ℕ) (b : Broker) (ws : List Write) → calm_writes ws ≡ true → SendersWithin n b.senders → SendersWithin n (all_written per b ws).senders
+calm_written : (per n : ℕ) (b : Broker) (ws : List Write) → calm_writes ws ≡ true → ReplicatorsWithin n b.replicators → ReplicatorsWithin n (all_written per b ws).replicators
 calm_written per n b [] calm h = h
 calm_written per n b (write.Append e ∷ ws) calm h = calm_written per n (written per b (write.Append e)) ws calm h
 calm_written per n b (write.Create name kind replicated latest ∷ ws) calm h =
@@ -51,9 +51,9 @@ calm_written per n b (write.Alter name kind replicated ∷ ws) calm h = calm_wri
 calm_written per n b (write.Delete name ∷ ws) calm h = calm_written per n (written per b (write.Delete name)) ws calm h
 calm_written per n b (write.Acks name is ∷ ws) calm h = calm_written per n (written per b (write.Acks name is)) ws calm h
 calm_written per n b (write.Seek name i ∷ ws) calm h = calm_written per n (written per b (write.Seek name i)) ws calm h
-calm_written per n b (write.SenderAck y i ∷ ws) calm h =
-    calm_written per n (written per b (write.SenderAck y i)) ws calm
-    (λ z. at_set (SenderWithin n) b.senders y z _ new_sender (λ _. record { session = (h y).session; next = (h y).next }) (h z))
+calm_written per n b (write.ReplicatorAck y i ∷ ws) calm h =
+    calm_written per n (written per b (write.ReplicatorAck y i)) ws calm
+    (λ z. at_set (ReplicatorWithin n) b.replicators y z _ new_replicator (λ _. record { session = (h y).session; next = (h y).next }) (h z))
 calm_written per n b (write.SessionNumber y m ∷ ws) calm h = absurd (false≢true calm)
 calm_written per n b (write.Ledger ∷ ws) calm h = calm_written per n (written per b write.Ledger) ws calm h
 
@@ -62,27 +62,27 @@ abbrev is_calm_change : Change → Bool
 is_calm_change (change.Pend y i) = false
 is_calm_change c = true
 
-calm_one : (n : ℕ) (b : Broker) (c : Change) → is_calm_change c ≡ true → SendersWithin n b.senders → SendersWithin n (changed b c).senders
+calm_one : (n : ℕ) (b : Broker) (c : Change) → is_calm_change c ≡ true → ReplicatorsWithin n b.replicators → ReplicatorsWithin n (changed b c).replicators
 calm_one n b (change.Pend y i) calm h = absurd (false≢true calm)
 calm_one n b (change.Opening y) calm h =
-    λ z. at_set (SenderWithin n) b.senders y z _ new_sender (λ _. record { session = (h y).session; next = omega arith }) (h z)
+    λ z. at_set (ReplicatorWithin n) b.replicators y z _ new_replicator (λ _. record { session = (h y).session; next = omega arith }) (h z)
 calm_one n b (change.Opened y) calm h =
-    λ z. at_set (SenderWithin n) b.senders y z _ new_sender (λ _. record { session = (h y).session; next = (h y).next }) (h z)
+    λ z. at_set (ReplicatorWithin n) b.replicators y z _ new_replicator (λ _. record { session = (h y).session; next = (h y).next }) (h z)
 calm_one n b (change.ReadTo y i) calm h =
-    λ z. at_set (SenderWithin n) b.senders y z _ new_sender (λ _. record { session = (h y).session; next = (h y).next }) (h z)
+    λ z. at_set (ReplicatorWithin n) b.replicators y z _ new_replicator (λ _. record { session = (h y).session; next = (h y).next }) (h z)
 calm_one n b (change.Unpend y m) calm h =
-    λ z. at_set (SenderWithin n) b.senders y z _ new_sender (λ _. record { session = (h y).session; next = (h y).next }) (h z)
+    λ z. at_set (ReplicatorWithin n) b.replicators y z _ new_replicator (λ _. record { session = (h y).session; next = (h y).next }) (h z)
 calm_one n b change.Forget calm h =
-    λ z. at_map (SenderWithin n) sender_restarted (λ s w. record { session = w.session; next = omega arith }) b.senders z new_sender
+    λ z. at_map (ReplicatorWithin n) replicator_restarted (λ s w. record { session = w.session; next = omega arith }) b.replicators z new_replicator
     (record { session = omega arith; next = omega arith }) (h z)
 calm_one n b c calm h = h
 
-calm_changed : (n : ℕ) (b : Broker) (cs : List Change) → calm_changes cs ≡ true → SendersWithin n b.senders → SendersWithin n (all_changed b cs).senders
+calm_changed : (n : ℕ) (b : Broker) (cs : List Change) → calm_changes cs ≡ true → ReplicatorsWithin n b.replicators → ReplicatorsWithin n (all_changed b cs).replicators
 calm_changed n b [] calm h = h
 calm_changed n b (change.Pend y i ∷ cs) calm h = absurd (false≢true calm)
 calm_changed n b (c ∷ cs) calm h = calm_changed n (changed b c) cs calm (calm_one n b c refl h)
 
-pub calm_done : (per n : ℕ) (b : Broker) (p : Plan) → IsCalm p → SendersWithin n b.senders → SendersWithin n (done per b p).senders
+pub calm_done : (per n : ℕ) (b : Broker) (p : Plan) → IsCalm p → ReplicatorsWithin n b.replicators → ReplicatorsWithin n (done per b p).replicators
 calm_done per n b p calm h = calm_changed n (all_written per b p.writes) p.changes calm.changes (calm_written per n b p.writes calm.writes h)
 
 -- two lists in a row
@@ -151,7 +151,7 @@ snaps_calm h b q (Snaps.Asks any none) = calm q refl refl
 offers_calm : (h : Site) (b : Broker) (n : List ℕ) (q : Plan) → Offers h b n q → IsCalm q
 offers_calm h b n q Offers.NothingToOffer = calm q refl refl
 offers_calm h b n q (Offers.Gives v i at e due is picked) = calm q refl refl
-offers_calm h b n q (Offers.PassesBy v i e ws due is after) = calm q (updates_calm h b _ ws after) refl
+offers_calm h b n q (Offers.SkipsMarker v i e ws due is after) = calm q (updates_calm h b _ ws after) refl
 offers_calm h b n q (Offers.Caches v i j e c ws due is after) = calm q (updates_calm h b _ ws after) refl
 
 seeks_calm : (h : Site) (b : Broker) (n : List ℕ) (to : Option Position) (q : Plan) → Seeks h b n to q → IsCalm q
@@ -162,17 +162,17 @@ restart_calm : IsCalm restart
 unfolding restart
 restart_calm = record { writes = refl; changes = refl }
 
--- whatever an event does raises a sender's numbers by one at most
+-- whatever an event does raises a replicator's numbers by one at most
 abbrev pub Raises : ℕ → ℕ → Broker → Plan → Type 0
-Raises per n b p = SendersWithin n b.senders → SendersWithin (n + 1) (done per b p).senders
+Raises per n b p = ReplicatorsWithin n b.replicators → ReplicatorsWithin (n + 1) (done per b p).replicators
 
 pub calm_raises : (per n : ℕ) (b : Broker) (p : Plan) → IsCalm p → Raises per n b p
-calm_raises per n b p c h z = sender_more n _ (calm_done per n b p c h z)
+calm_raises per n b p c h z = replicator_more n _ (calm_done per n b p c h z)
 
 reads_raise : (per n : ℕ) (h : Site) (b : Broker) (y : ℕ) (q : Plan) → Reads h b y q → Raises per n b q
 reads_raise per n h b y q (Reads.Forwards i e next out) w =
-    λ z. at_set (SenderWithin (n + 1)) b.senders y z _ new_sender
-    (λ _. record { session = omega (arith, (w y).session); next = omega (arith, (w y).next) }) (sender_more n _ (w z))
+    λ z. at_set (ReplicatorWithin (n + 1)) b.replicators y z _ new_replicator
+    (λ _. record { session = omega (arith, (w y).session); next = omega (arith, (w y).next) }) (replicator_more n _ (w z))
 reads_raise per n h b y q Reads.NothingToRead w = calm_raises per n b q (calm q refl refl) w
 reads_raise per n h b y q (Reads.Skips i e next other) w = calm_raises per n b q (calm q refl refl) w
 reads_raise per n h b y q (Reads.Responds i e id source next of is) w = calm_raises per n b q (calm q refl refl) w
@@ -180,16 +180,16 @@ reads_raise per n h b y q (Reads.Counts i e id answer u u' next is heard) w = ca
 reads_raise per n h b y q (Reads.AsksAgain i e id answer u u' next is heard) w = calm_raises per n b q (calm q refl refl) w
 reads_raise per n h b y q (Reads.Completes i e id answer u u' next is heard) w = calm_raises per n b q (calm q refl refl) w
 reads_raise per n h b y q (Reads.CreatesAt i j e name remote next is named) w = calm_raises per n b q (calm q refl refl) w
-reads_raise per n h b y q (Reads.PassesOver i j e name remote v ws next is named after) w =
-    calm_raises per n b q (calm q (both_writes ws (write.SenderAck y i ∷ []) (updates_calm h b _ ws after) refl) refl) w
+reads_raise per n h b y q (Reads.ActsOnUpdate i j e name remote v ws next is named after) w =
+    calm_raises per n b q (calm q (both_writes ws (write.ReplicatorAck y i ∷ []) (updates_calm h b _ ws after) refl) refl) w
 
-reset_raises : (per n : ℕ) (b : Broker) (y : ℕ) → SendersWithin n b.senders
-    → SendersWithin (n + 1) (all_changed (all_written per b (write.SessionNumber y ((sender_at b y).session + 1) ∷ [])) (change.Opening y ∷ [])).senders
+reset_raises : (per n : ℕ) (b : Broker) (y : ℕ) → ReplicatorsWithin n b.replicators
+    → ReplicatorsWithin (n + 1) (all_changed (all_written per b (write.SessionNumber y ((replicator_at b y).session + 1) ∷ [])) (change.Opening y ∷ [])).replicators
 reset_raises per n b y w =
-    let more : SendersWithin (n + 1) (written per b (write.SessionNumber y ((sender_at b y).session + 1))).senders =
-    λ z. at_set (SenderWithin (n + 1)) b.senders y z _ new_sender
-    (λ _. record { session = omega (arith, (w y).session); next = omega (arith, (w y).next) }) (sender_more n _ (w z)) in
-    calm_one (n + 1) (written per b (write.SessionNumber y ((sender_at b y).session + 1))) (change.Opening y) refl more
+    let more : ReplicatorsWithin (n + 1) (written per b (write.SessionNumber y ((replicator_at b y).session + 1))).replicators =
+    λ z. at_set (ReplicatorWithin (n + 1)) b.replicators y z _ new_replicator
+    (λ _. record { session = omega (arith, (w y).session); next = omega (arith, (w y).next) }) (replicator_more n _ (w z)) in
+    calm_one (n + 1) (written per b (write.SessionNumber y ((replicator_at b y).session + 1))) (change.Opening y) refl more
 
 pub shape_raises : (s : Setup) (w : World) (n : ℕ) (p : Planned) → Shape s w p → Raises s.per_ledger n (topic_at s w p.topic p.cluster) p.plan
 shape_raises s w n p (Shape.Reset t x y within remote) = reset_raises s.per_ledger n (topic_at s w t x) y

@@ -60,8 +60,8 @@ reads_few h b y q (Reads.Counts i e id answer u u' next is heard) = omega arith
 reads_few h b y q (Reads.AsksAgain i e id answer u u' next is heard) = omega arith
 reads_few h b y q (Reads.Completes i e id answer u u' next is heard) = omega arith
 reads_few h b y q (Reads.CreatesAt i j e n remote next is named) = omega arith
-reads_few h b y q (Reads.PassesOver i j e n remote v ws next is named after) =
-    let u = updates_few h b _ ws after in let l = size_both ws (write.SenderAck y i ∷ []) in omega (arith, u, l)
+reads_few h b y q (Reads.ActsOnUpdate i j e n remote v ws next is named after) =
+    let u = updates_few h b _ ws after in let l = size_both ws (write.ReplicatorAck y i ∷ []) in omega (arith, u, l)
   where
     size_both : (ws vs : List Write) → length (ws ++ vs) ≡ length ws + length vs
     size_both [] vs = omega arith
@@ -70,7 +70,7 @@ reads_few h b y q (Reads.PassesOver i j e n remote v ws next is named after) =
 offers_few : (h : Site) (b : Broker) (n : List ℕ) (q : Plan) → Offers h b n q → length q.writes ≤ 3
 offers_few h b n q Offers.NothingToOffer = omega arith
 offers_few h b n q (Offers.Gives v i at e due is picked) = omega arith
-offers_few h b n q (Offers.PassesBy v i e ws due is after) = let u = updates_few h b _ ws after in omega (arith, u)
+offers_few h b n q (Offers.SkipsMarker v i e ws due is after) = let u = updates_few h b _ ws after in omega (arith, u)
 offers_few h b n q (Offers.Caches v i j e c ws due is after) = let u = updates_few h b _ ws after in omega (arith, u)
 
 seeks_few : (h : Site) (b : Broker) (n : List ℕ) (to : Option Position) (q : Plan) → Seeks h b n to q → length q.writes ≤ 3

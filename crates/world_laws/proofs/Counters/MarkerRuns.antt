@@ -1,5 +1,5 @@
 -- In every run of a script the number of a cluster's next own marker is at most the number of entries there.
-use Rattle.std.proofs.Common.{◌≡◌, ℕ, ◌+◌, ◌*◌, ◌≤◌, Bool, true, List, [], ◌∷◌, length, map, refl, sym, ap, subst, ◌∙◌, arith}
+use Rattle.std.proofs.Common.{◌≡◌, ℕ, ◌+◌, ◌*◌, ◌≤◌, true, List, [], ◌∷◌, length, map, refl, sym, ap, subst, ◌∙◌, arith}
 use Rattle.std.specs.Prelude.{Option, Some, None, nat_lt, slice_get, slice_index_or, is_some, ◌==◌, ◌&&◌}
 use Rattle.std.specs.List.{list_all}
 use Rattle.std.proofs.lemmas.Bool.{ltb-true}
@@ -40,6 +40,7 @@ use Rattle.world_laws.proofs.Induction.Runs.{IsKept, IsKeptByEvents, IsKeptOn, b
 use Rattle.world_laws.proofs.Walks.Shapes.{Shape}
 use Rattle.world_laws.proofs.Replicating.Sizes.{IsThere, Sized, node_lt, node_there, sized_kept, stopped_at}
 use Rattle.world_laws.proofs.Walks.Walk.{on_if, on_test}
+use Rattle.geo_base.proofs.Bools.{and_first_of_five}
 
 -- WHAT CLIENTS SEND
 
@@ -113,13 +114,10 @@ unfolding get
 gets_named d k None = tt
 gets_named d k (Some p) = tt
 
-first_of : (a b c d e : Bool) → (a && b && c && d && e) ≡ true → a ≡ true
-first_of a b c d e h = grind (arith, h)
-
 client_name : (s : Setup) → IsScripted s → (c : ℕ) → has_client s c ≡ true → is_name (declared_at s c).name ≡ true
 client_name s scripted c has =
     let d = declared_at s c in
-    first_of (is_name d.name) (nat_lt d.topic (length s.topics)) (nat_lt d.cluster (length s.clusters)) (list_all (is_line s) d.lines) (stays_or_is_silent d.lines)
+    and_first_of_five (is_name d.name) (nat_lt d.topic (length s.topics)) (nat_lt d.cluster (length s.clusters)) (list_all (is_line s) d.lines) (stays_or_is_silent d.lines)
     (all_index (is_declared s) s.clients c nobody scripted.clients.0 (ltb-true c (length s.clients) has))
 
 -- LINKS

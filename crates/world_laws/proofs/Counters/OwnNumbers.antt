@@ -10,7 +10,7 @@ use Rattle.world_laws.proofs.Types.{Entry, Frame, Packet, Position, Write}
 use Rattle.world_laws.proofs.Types.frame
 use Rattle.world_laws.proofs.Types.write
 use Rattle.geo_base.specs.Broker.{Broker, Site, cluster_name}
-use Rattle.geo_base.specs.Builder.{current_id, snapshot_id}
+use Rattle.geo_base.specs.SnapshotBuilder.{current_id, snapshot_id}
 use Rattle.geo_base.specs.Entry.{is_own_marker, marker_producer, with_origin}
 use Rattle.geo_base.specs.Forwarding.{closes}
 use Rattle.geo_base.specs.Markers.{request_marker, response_marker, snapshot_marker}
@@ -94,7 +94,7 @@ marks_take own es (suc k) [] h = tt
 marks_take own es (suc k) (write.Append e ∷ ws) h = (h.0, marks_take own (es ++ e ∷ []) k ws h.1)
 marks_take own es (suc k) (w ∷ ws) h = marks_take own es k ws h
 
--- behind a beginning of them, and a new ledger
+-- after a beginning of them, and a new ledger
 pub marks_halt : (own : ℕ) (es : List Entry) (k : ℕ) (ws : List Write) → Marks own es ws → next_marker own (after_writes es (take k ws ++ write.Ledger ∷ [])) ≤ next_marker own es + length ws
 marks_halt own es k ws m =
     let same = ap (next_marker own) (after_halt es (take k ws)) in
@@ -183,7 +183,7 @@ reads_mark h b y q (Reads.Counts i e id answer u u' next is heard) = tt
 reads_mark h b y q (Reads.AsksAgain i e id answer u u' next is heard) = (own_numbered h.own b.entries (request_marker h b (current_id u')) refl, tt)
 reads_mark h b y q (Reads.Completes i e id answer u u' next is heard) = (own_numbered h.own b.entries (snapshot_marker h b u') refl, tt)
 reads_mark h b y q (Reads.CreatesAt i j e n remote next is named) = tt
-reads_mark h b y q (Reads.PassesOver i j e n remote v ws next is named after) = marks_both h.own b.entries ws (write.SenderAck y i ∷ []) (updates_mark h b _ ws after) tt
+reads_mark h b y q (Reads.ActsOnUpdate i j e n remote v ws next is named after) = marks_both h.own b.entries ws (write.ReplicatorAck y i ∷ []) (updates_mark h b _ ws after) tt
 
 snaps_mark : (h : Site) (b : Broker) (q : Plan) → Snaps h b q → Marks h.own b.entries q.writes
 snaps_mark h b q Snaps.NothingToAsk = tt
@@ -192,7 +192,7 @@ snaps_mark h b q (Snaps.Asks any none) = (own_numbered h.own b.entries (request_
 offers_mark : (h : Site) (b : Broker) (n : List ℕ) (q : Plan) → Offers h b n q → Marks h.own b.entries q.writes
 offers_mark h b n q Offers.NothingToOffer = tt
 offers_mark h b n q (Offers.Gives v i at e due is picked) = tt
-offers_mark h b n q (Offers.PassesBy v i e ws due is after) = updates_mark h b _ ws after
+offers_mark h b n q (Offers.SkipsMarker v i e ws due is after) = updates_mark h b _ ws after
 offers_mark h b n q (Offers.Caches v i j e c ws due is after) = updates_mark h b _ ws after
 
 seeks_mark : (h : Site) (b : Broker) (n : List ℕ) (to : Option Position) (q : Plan) → Seeks h b n to q → Marks h.own b.entries q.writes

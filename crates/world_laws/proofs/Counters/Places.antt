@@ -12,7 +12,7 @@ use Rattle.geo_base.specs.Happening.{broker_does, broker_halts, client_does, doe
 use Rattle.geo_base.specs.Plan.{Plan, all_changed, all_written, done, halted}
 use Rattle.geo_base.specs.Planned.{Planned, has_client, planned}
 use Rattle.geo_base.specs.Seeking.{restart}
-use Rattle.geo_base.specs.Sender.{Sender, new_sender, sender_restarted}
+use Rattle.geo_base.specs.Replicator.{Replicator, new_replicator, replicator_restarted}
 use Rattle.geo_base.specs.Setup.{Setup}
 use Rattle.geo_base.specs.World.{LinkName, World, broker_at, node, opening_world}
 use Rattle.geo_base.specs.Worlds.{BrokerPlaces, IsWorldOf}
@@ -20,33 +20,33 @@ use Rattle.world_laws.proofs.Induction.Frames.{at_set}
 use Rattle.world_laws.proofs.Induction.Runs.{IsKeptByEvents}
 use Rattle.world_laws.proofs.Walks.Walk.{on_if}
 
-same_senders : (s : Setup) (b : Broker) (y : ℕ) (v : Sender) → BrokerPlaces s b → BrokerPlaces s (record b { senders = slice_set b.senders y v })
-same_senders s b y v p = record { senders = length-set b.senders y v ∙ p.senders; receivers = p.receivers; sessions = p.sessions }
+same_replicators : (s : Setup) (b : Broker) (y : ℕ) (v : Replicator) → BrokerPlaces s b → BrokerPlaces s (record b { replicators = slice_set b.replicators y v })
+same_replicators s b y v p = record { replicators = length-set b.replicators y v ∙ p.replicators; receivers = p.receivers; sessions = p.sessions }
 
 created : (s : Setup) (per : ℕ) (b : Broker) (n : List ℕ) (kind : SubKind) (replicated latest : Bool) → BrokerPlaces s b → BrokerPlaces s (written per b (write.Create n kind replicated latest))
 created s per b n kind replicated latest p =
-    on_if (BrokerPlaces s) (is_some (sub_named b.subs n)) _ _ p (record { senders = p.senders; receivers = p.receivers; sessions = p.sessions })
+    on_if (BrokerPlaces s) (is_some (sub_named b.subs n)) _ _ p (record { replicators = p.replicators; receivers = p.receivers; sessions = p.sessions })
 
 kept_write : (s : Setup) (per : ℕ) (b : Broker) (w : Write) → BrokerPlaces s b → BrokerPlaces s (written per b w)
 kept_write s per b (write.Create n kind replicated latest) p = created s per b n kind replicated latest p
-kept_write s per b (write.SenderAck y i) p = same_senders s b y _ p
-kept_write s per b (write.SessionNumber y n) p = same_senders s b y _ p
-kept_write s per b w p = record { senders = p.senders; receivers = p.receivers; sessions = p.sessions }
+kept_write s per b (write.ReplicatorAck y i) p = same_replicators s b y _ p
+kept_write s per b (write.SessionNumber y n) p = same_replicators s b y _ p
+kept_write s per b w p = record { replicators = p.replicators; receivers = p.receivers; sessions = p.sessions }
 
 kept_change : (s : Setup) (b : Broker) (c : Change) → BrokerPlaces s b → BrokerPlaces s (changed b c)
-kept_change s b (change.Receiver x r) p = record { senders = p.senders; receivers = length-set b.receivers x r ∙ p.receivers; sessions = p.sessions }
-kept_change s b (change.Client c v) p = record { senders = p.senders; receivers = p.receivers; sessions = length-set b.sessions c v ∙ p.sessions }
-kept_change s b (change.Opening y) p = same_senders s b y _ p
-kept_change s b (change.Opened y) p = same_senders s b y _ p
-kept_change s b (change.Pend y i) p = same_senders s b y _ p
-kept_change s b (change.ReadTo y i) p = same_senders s b y _ p
-kept_change s b (change.Unpend y n) p = same_senders s b y _ p
+kept_change s b (change.Receiver x r) p = record { replicators = p.replicators; receivers = length-set b.receivers x r ∙ p.receivers; sessions = p.sessions }
+kept_change s b (change.Client c v) p = record { replicators = p.replicators; receivers = p.receivers; sessions = length-set b.sessions c v ∙ p.sessions }
+kept_change s b (change.Opening y) p = same_replicators s b y _ p
+kept_change s b (change.Opened y) p = same_replicators s b y _ p
+kept_change s b (change.Pend y i) p = same_replicators s b y _ p
+kept_change s b (change.ReadTo y i) p = same_replicators s b y _ p
+kept_change s b (change.Unpend y n) p = same_replicators s b y _ p
 kept_change s b change.Forget p = record {
-  senders = length-map b.senders sender_restarted ∙ p.senders;
+  replicators = length-map b.replicators replicator_restarted ∙ p.replicators;
   receivers = length-map b.receivers (λ (r : Option ℕ). None) ∙ p.receivers;
   sessions = length-map b.sessions (λ (v : Option Session). None) ∙ p.sessions;
 }
-kept_change s b c p = record { senders = p.senders; receivers = p.receivers; sessions = p.sessions }
+kept_change s b c p = record { replicators = p.replicators; receivers = p.receivers; sessions = p.sessions }
 
 kept_writes : (s : Setup) (per : ℕ) (b : Broker) (ws : List Write) → BrokerPlaces s b → BrokerPlaces s (all_written per b ws)
 kept_writes s per b [] p = p
@@ -153,7 +153,7 @@ opening_places s = record {
   broker_clocks = length-replicate (length s.topics * length s.clusters) 0;
   client_clocks = length-replicate (length s.clients) 0;
   each = λ z within. replicate_at (BrokerPlaces s) (length s.topics * length s.clusters) z (new_broker (length s.clusters) (length s.clients)) no_broker
-      (record { senders = length-replicate (length s.clusters) new_sender; receivers = length-replicate (length s.clusters) None; sessions = length-replicate (length s.clients) None }) within;
+      (record { replicators = length-replicate (length s.clusters) new_replicator; receivers = length-replicate (length s.clusters) None; sessions = length-replicate (length s.clients) None }) within;
 }
 
 pub places_kept : (s : Setup) → IsKeptByEvents s (IsWorldOf s)

@@ -11,11 +11,11 @@ use Rattle.geo_base.specs.Link.{Link, discarded, no_link}
 use Rattle.geo_base.specs.Plan.{done, halted}
 use Rattle.geo_base.specs.Planned.{Planned, has_client, planned}
 use Rattle.geo_base.specs.Seeking.{restart}
-use Rattle.geo_base.specs.Sender.{new_sender}
+use Rattle.geo_base.specs.Replicator.{new_replicator}
 use Rattle.geo_base.specs.Setup.{Setup, declared_at}
 use Rattle.geo_base.specs.Subscription.{Subscription}
 use Rattle.geo_base.specs.World.{Back, Forward, LinkName, ToBroker, ToClient, World, broker_at, client_at, node, opening_world, packet_at}
-use Rattle.world_laws.specs.Within.{ClientWithin, LawNumbers, NumbersWithin, SeeksWithin, SenderWithin, StampsWithin}
+use Rattle.world_laws.specs.Within.{ClientWithin, LawNumbers, NumbersWithin, SeeksWithin, ReplicatorWithin, StampsWithin}
 use Rattle.world_laws.proofs.Counters.Bounds.{AllStamps, client_more, clocks_set, delivered_stamps, get_within, go_within, next_within, opening_within, packet_within, reconnect_within, stamps_more, taken_stamps}
 use Rattle.world_laws.proofs.Replicating.Effects.{Each}
 use Rattle.world_laws.proofs.Walks.EventWalk.{HasShape, planned_shape}
@@ -163,12 +163,12 @@ stop_counted m s w (n, is, h) = (
 )
 
 new_below : (clusters clients : ℕ) → Below 0 (new_broker clusters clients)
-new_below clusters clients = record { senders = (opening_senders clusters); seeks = tt }
+new_below clusters clients = record { replicators = (opening_replicators clusters); seeks = tt }
   where
-    opening_senders : (n y : ℕ) → SenderWithin 0 (slice_index_or (replicate n new_sender) y new_sender)
-    opening_senders n y =
-        let new : SenderWithin 0 new_sender = record { session = omega arith; next = omega arith } in
-        at_copies (SenderWithin 0) n y new_sender new_sender new new
+    opening_replicators : (n y : ℕ) → ReplicatorWithin 0 (slice_index_or (replicate n new_replicator) y new_replicator)
+    opening_replicators n y =
+        let new : ReplicatorWithin 0 new_replicator = record { session = omega arith; next = omega arith } in
+        at_copies (ReplicatorWithin 0) n y new_replicator new_replicator new new
 
 opening_counted : (s : Setup) → Counted 0 s (opening_world s)
 opening_counted s = let h = opening_within s in (
@@ -176,7 +176,7 @@ opening_counted s = let h = opening_within s in (
   omega arith,
   record {
     brokers = λ z. at_copies (Below 0) (length s.topics * length s.clusters) z (new_broker (length s.clusters) (length s.clients)) no_broker
-        (new_below (length s.clusters) (length s.clients)) (record { senders = (new_below 0 0).senders; seeks = tt });
+        (new_below (length s.clusters) (length s.clients)) (record { replicators = (new_below 0 0).replicators; seeks = tt });
     clients = h.clients;
     broker_clocks = h.broker_clocks;
     client_clocks = h.client_clocks;
@@ -202,7 +202,7 @@ each_seek n (v ∷ vs) h = (h.0, each_seek n vs h.1)
 
 pub told : (m n : ℕ) (s : Setup) (w : World) → m + w.events ≡ n → Counted m s w → NumbersWithin s n w
 told m n s w same (k, is, h) = subst (λ (i : ℕ). NumbersWithin s i w) (is ∙ same) (record {
-  brokers = λ z. record { senders = (h.brokers z).senders; seeks = each_seek k (broker_at w z).subs (h.brokers z).seeks };
+  brokers = λ z. record { replicators = (h.brokers z).replicators; seeks = each_seek k (broker_at w z).subs (h.brokers z).seeks };
   clients = h.clients;
   broker_clocks = h.broker_clocks;
   client_clocks = h.client_clocks;

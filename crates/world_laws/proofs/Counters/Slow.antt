@@ -1,27 +1,27 @@
--- Plans and the numbers that rise with events. A slow plan raises the session of a sender, the number of its next frame and the
+-- Plans and the numbers that rise with events. A slow plan raises the session of a replicator, the number of its next frame and the
 -- count of a subscription's seeks by one at most; every plan is slow.
 use Rattle.std.proofs.Common.{ℕ, zero, suc, ◌+◌, ◌≤◌, Bool, List, [], ◌∷◌, ◌++◌, map, arith}
 use Rattle.std.specs.Prelude.{Option, None, is_some, not, take}
 use Rattle.std.specs.Str.{bytes_eq}
 use Rattle.world_laws.proofs.Types.{Change, Out, Packet, Position, SubKind, Write}
 use Rattle.world_laws.proofs.Types.change
-use Rattle.world_laws.proofs.Types.sender_state
+use Rattle.world_laws.proofs.Types.replicator_state
 use Rattle.world_laws.proofs.Types.write
-use Rattle.geo_base.specs.Broker.{Broker, Site, at_sender, at_sub, changed, sender_at, sub_named, written}
+use Rattle.geo_base.specs.Broker.{Broker, Site, at_replicator, at_sub, changed, replicator_at, sub_named, written}
 use Rattle.geo_base.specs.Cache.{cached}
 use Rattle.geo_base.specs.Cursor.{below}
-use Rattle.geo_base.specs.Dispatcher.{given, passed_index}
+use Rattle.geo_base.specs.Dispatcher.{given, skipped_index}
 use Rattle.geo_base.specs.Forwarding.{closes}
 use Rattle.geo_base.specs.Plan.{Plan, all_changed, all_written, done, halted, idle_plan, plan_of, quiet_plan}
 use Rattle.geo_base.specs.Planned.{Planned}
 use Rattle.geo_base.specs.Seeking.{restart}
-use Rattle.geo_base.specs.Sender.{Sender, new_sender, sender_reset, sender_restarted, sender_sent, without_number}
+use Rattle.geo_base.specs.Replicator.{Replicator, new_replicator, replicator_reset, replicator_restarted, replicator_sent, without_number}
 use Rattle.geo_base.specs.Serving.{session_becomes}
 use Rattle.geo_base.specs.Setup.{Setup, declared_at}
 use Rattle.geo_base.specs.Subscription.{Subscription, after_acks, attached, cleared, detached, new_subscription, permitted, with_acks}
 use Rattle.geo_base.specs.World.{World, site, topic_at}
-use Rattle.world_laws.specs.Within.{SenderWithin, SendersWithin}
-use Rattle.world_laws.proofs.Counters.Calm.{sender_more}
+use Rattle.world_laws.specs.Within.{ReplicatorWithin, ReplicatorsWithin}
+use Rattle.world_laws.proofs.Counters.Calm.{replicator_more}
 use Rattle.world_laws.proofs.Replicating.Effects.{Each, each_both, each_map, each_take}
 use Rattle.world_laws.proofs.Induction.Frames.{at_map, at_set}
 use Rattle.world_laws.proofs.Merges.PeerWalk.{each_filter}
@@ -34,12 +34,12 @@ SeeksAt n v = v.seeks ≤ n
 
 -- no number of a broker is above a bound
 pub record Below (n : ℕ) (b : Broker) : Type 0 where
-  pub senders : SendersWithin n b.senders
+  pub replicators : ReplicatorsWithin n b.replicators
   pub seeks : Each (SeeksAt n) b.subs
 
 pub below_more : (n : ℕ) (b : Broker) → Below n b → Below (n + 1) b
 below_more n b h = record {
-  senders = λ y. sender_more n _ (h.senders y);
+  replicators = λ y. replicator_more n _ (h.replicators y);
   seeks = each_map (SeeksAt n) (SeeksAt (n + 1)) (λ v k. omega (arith, k)) b.subs h.seeks;
 }
 
@@ -59,27 +59,27 @@ named_keeps P n f k vs h = each_to P P (at_name n f) (λ v p. on_if P (bytes_eq 
 created_below : (per n : ℕ) (b : Broker) (name : List ℕ) (kind : SubKind) (replicated latest : Bool) → Below n b → Below n (written per b (write.Create name kind replicated latest))
 created_below per n b name kind replicated latest h =
     on_if (Below n) (is_some (sub_named b.subs name)) b _ h (record {
-      senders = h.senders;
+      replicators = h.replicators;
       seeks = each_both (SeeksAt n) b.subs (new_subscription name kind replicated _ ∷ []) h.seeks (omega arith, tt);
     })
 
 steady_one : (per n : ℕ) (b : Broker) (w : Write) → IsSteady w → Below n b → Below n (written per b w)
-steady_one per n b (write.Append e) s h = record { senders = h.senders; seeks = h.seeks }
+steady_one per n b (write.Append e) s h = record { replicators = h.replicators; seeks = h.seeks }
 steady_one per n b (write.Create name kind replicated latest) s h = created_below per n b name kind replicated latest h
 steady_one per n b (write.Alter name kind replicated) s h = record {
-  senders = h.senders;
+  replicators = h.replicators;
   seeks = named_keeps (SeeksAt n) name (λ v. record v { kind = kind; replicated = replicated }) (λ v k. k) b.subs h.seeks;
 }
 steady_one per n b (write.Delete name) s h = record {
-  senders = h.senders;
+  replicators = h.replicators;
   seeks = each_filter (SeeksAt n) (λ (v : Subscription). not (bytes_eq v.name name)) b.subs h.seeks;
 }
-steady_one per n b (write.Acks name is) s h = record { senders = h.senders; seeks = named_keeps (SeeksAt n) name (with_acks is) (λ v k. k) b.subs h.seeks }
-steady_one per n b (write.SenderAck y i) s h = record {
-  senders = λ z. at_set (SenderWithin n) b.senders y z _ new_sender (λ _. record { session = (h.senders y).session; next = (h.senders y).next }) (h.senders z);
+steady_one per n b (write.Acks name is) s h = record { replicators = h.replicators; seeks = named_keeps (SeeksAt n) name (with_acks is) (λ v k. k) b.subs h.seeks }
+steady_one per n b (write.ReplicatorAck y i) s h = record {
+  replicators = λ z. at_set (ReplicatorWithin n) b.replicators y z _ new_replicator (λ _. record { session = (h.replicators y).session; next = (h.replicators y).next }) (h.replicators z);
   seeks = h.seeks;
 }
-steady_one per n b write.Ledger s h = record { senders = h.senders; seeks = h.seeks }
+steady_one per n b write.Ledger s h = record { replicators = h.replicators; seeks = h.seeks }
 steady_one per n b (write.Seek name i) s h = absurd s
 steady_one per n b (write.SessionNumber y m) s h = absurd s
 
@@ -90,20 +90,20 @@ steady_written per n b (w ∷ ws) s h = steady_written per n (written per b w) w
 -- slow: none is raised, or one by the first write
 pub data SlowWrites (b : Broker) : List Write → Type 0 where
   Steady : (ws : List Write) → Each IsSteady ws → SlowWrites b ws
-  Begins : (y : ℕ) (ws : List Write) → Each IsSteady ws → SlowWrites b (write.SessionNumber y ((sender_at b y).session + 1) ∷ ws)
+  Begins : (y : ℕ) (ws : List Write) → Each IsSteady ws → SlowWrites b (write.SessionNumber y ((replicator_at b y).session + 1) ∷ ws)
   Sets : (n : List ℕ) (i : ℕ) (ws : List Write) → Each IsSteady ws → SlowWrites b (write.Seek n i ∷ ws)
 
 slow_written : (per n : ℕ) (b : Broker) (ws : List Write) → SlowWrites b ws → Below n b → Below (n + 1) (all_written per b ws)
 slow_written per n b _ (Steady ws s) h = steady_written per (n + 1) b ws s (below_more n b h)
 slow_written per n b _ (Begins y ws s) h =
-    steady_written per (n + 1) (written per b (write.SessionNumber y ((sender_at b y).session + 1))) ws s (record {
-      senders = λ z. at_set (SenderWithin (n + 1)) b.senders y z _ new_sender
-          (λ _. record { session = omega (arith, (h.senders y).session); next = omega (arith, (h.senders y).next) }) (sender_more n _ (h.senders z));
+    steady_written per (n + 1) (written per b (write.SessionNumber y ((replicator_at b y).session + 1))) ws s (record {
+      replicators = λ z. at_set (ReplicatorWithin (n + 1)) b.replicators y z _ new_replicator
+          (λ _. record { session = omega (arith, (h.replicators y).session); next = omega (arith, (h.replicators y).next) }) (replicator_more n _ (h.replicators z));
       seeks = (below_more n b h).seeks;
     })
 slow_written per n b _ (Sets name i ws s) h =
     steady_written per (n + 1) (written per b (write.Seek name i)) ws s (record {
-      senders = (below_more n b h).senders;
+      replicators = (below_more n b h).replicators;
       seeks = each_to (SeeksAt n) (SeeksAt (n + 1)) (at_name name (λ v. record v { cursor = below i; seeks = v.seeks + 1 }))
           (λ v k. on_if (SeeksAt (n + 1)) (bytes_eq v.name name) _ v (omega (arith, k)) (omega (arith, k))) b.subs h.seeks;
     })
@@ -123,35 +123,35 @@ abbrev pub IsStill : Change → Type 0
 IsStill (change.Pend y i) = ⊥
 IsStill c = Unit {0}
 
-sender_below : (n : ℕ) (b : Broker) (y : ℕ) (f : Sender → Sender) → ((v : Sender) → SenderWithin n v → SenderWithin n (f v)) → Below n b → Below n (at_sender b y f)
-sender_below n b y f k h = record {
-  senders = λ z. at_set (SenderWithin n) b.senders y z (f (sender_at b y)) new_sender (λ _. k (sender_at b y) (h.senders y)) (h.senders z);
+replicator_below : (n : ℕ) (b : Broker) (y : ℕ) (f : Replicator → Replicator) → ((v : Replicator) → ReplicatorWithin n v → ReplicatorWithin n (f v)) → Below n b → Below n (at_replicator b y f)
+replicator_below n b y f k h = record {
+  replicators = λ z. at_set (ReplicatorWithin n) b.replicators y z (f (replicator_at b y)) new_replicator (λ _. k (replicator_at b y) (h.replicators y)) (h.replicators z);
   seeks = h.seeks;
 }
 
 named_below : (n : ℕ) (b : Broker) (name : List ℕ) (f : Subscription → Subscription) → ((v : Subscription) → SeeksAt n v → SeeksAt n (f v)) → Below n b → Below n (at_sub b name f)
-named_below n b name f k h = record { senders = h.senders; seeks = named_keeps (SeeksAt n) name f k b.subs h.seeks }
+named_below n b name f k h = record { replicators = h.replicators; seeks = named_keeps (SeeksAt n) name f k b.subs h.seeks }
 
 still_one : (n : ℕ) (b : Broker) (c : Change) → IsStill c → Below n b → Below n (changed b c)
-still_one n b (change.Receiver x session) s h = record { senders = h.senders; seeks = h.seeks }
-still_one n b (change.Client c session) s h = record { senders = h.senders; seeks = h.seeks }
+still_one n b (change.Receiver x session) s h = record { replicators = h.replicators; seeks = h.seeks }
+still_one n b (change.Client c session) s h = record { replicators = h.replicators; seeks = h.seeks }
 still_one n b (change.Attach name k) s h = named_below n b name (attached k) (λ v p. p) h
-still_one n b (change.Detach c) s h = record { senders = h.senders; seeks = each_to (SeeksAt n) (SeeksAt n) (detached c) (λ v p. p) b.subs h.seeks }
+still_one n b (change.Detach c) s h = record { replicators = h.replicators; seeks = each_to (SeeksAt n) (SeeksAt n) (detached c) (λ v p. p) b.subs h.seeks }
 still_one n b (change.Permit name c permits) s h = named_below n b name (permitted c permits) (λ v p. p) h
-still_one n b (change.Passed name i) s h = named_below n b name (passed_index i) (λ v p. p) h
+still_one n b (change.Skipped name i) s h = named_below n b name (skipped_index i) (λ v p. p) h
 still_one n b (change.Given name i at) s h = named_below n b name (given i at) (λ v p. p) h
 still_one n b (change.Cache name snapshot) s h = named_below n b name (λ v. record v { cache = cached v.cache snapshot }) (λ v p. p) h
 still_one n b (change.Acked name) s h = named_below n b name after_acks (λ v p. p) h
 still_one n b (change.Cleared name) s h = named_below n b name cleared (λ v p. p) h
-still_one n b (change.Opening y) s h = sender_below n b y sender_reset (λ v p. record { session = p.session; next = omega arith }) h
-still_one n b (change.Opened y) s h = sender_below n b y (λ v. record v { state = sender_state.Open }) (λ v p. record { session = p.session; next = p.next }) h
+still_one n b (change.Opening y) s h = replicator_below n b y replicator_reset (λ v p. record { session = p.session; next = omega arith }) h
+still_one n b (change.Opened y) s h = replicator_below n b y (λ v. record v { state = replicator_state.Open }) (λ v p. record { session = p.session; next = p.next }) h
 still_one n b (change.Pend y i) s h = absurd s
-still_one n b (change.ReadTo y i) s h = sender_below n b y (λ v. record v { read_index = i }) (λ v p. record { session = p.session; next = p.next }) h
-still_one n b (change.Unpend y m) s h = sender_below n b y (λ v. record v { pending = without_number v.pending m }) (λ v p. record { session = p.session; next = p.next }) h
-still_one n b (change.Building o) s h = record { senders = h.senders; seeks = h.seeks }
+still_one n b (change.ReadTo y i) s h = replicator_below n b y (λ v. record v { read_index = i }) (λ v p. record { session = p.session; next = p.next }) h
+still_one n b (change.Unpend y m) s h = replicator_below n b y (λ v. record v { pending = without_number v.pending m }) (λ v p. record { session = p.session; next = p.next }) h
+still_one n b (change.Building o) s h = record { replicators = h.replicators; seeks = h.seeks }
 still_one n b change.Forget s h = record {
-  senders = λ z. at_map (SenderWithin n) sender_restarted (λ v w. record { session = w.session; next = omega arith }) b.senders z new_sender
-      (record { session = omega arith; next = omega arith }) (h.senders z);
+  replicators = λ z. at_map (ReplicatorWithin n) replicator_restarted (λ v w. record { session = w.session; next = omega arith }) b.replicators z new_replicator
+      (record { session = omega arith; next = omega arith }) (h.replicators z);
   seeks = each_to (SeeksAt n) (SeeksAt n) cleared (λ v p. p) b.subs h.seeks;
 }
 
@@ -168,8 +168,8 @@ pub data Slow (b : Broker) : Plan → Type 0 where
 pub slow_done : (per n : ℕ) (b : Broker) (p : Plan) → Slow b p → Below n b → Below (n + 1) (done per b p)
 slow_done per n b _ (Still p ws cs) h = still_changed (n + 1) (all_written per b p.writes) p.changes cs (slow_written per n b p.writes ws h)
 slow_done per n b _ (Sends y i os) h = record {
-  senders = λ z. at_set (SenderWithin (n + 1)) b.senders y z (sender_sent i (sender_at b y)) new_sender
-      (λ _. record { session = omega (arith, (h.senders y).session); next = omega (arith, (h.senders y).next) }) (sender_more n _ (h.senders z));
+  replicators = λ z. at_set (ReplicatorWithin (n + 1)) b.replicators y z (replicator_sent i (replicator_at b y)) new_replicator
+      (λ _. record { session = omega (arith, (h.replicators y).session); next = omega (arith, (h.replicators y).next) }) (replicator_more n _ (h.replicators z));
   seeks = (below_more n b h).seeks;
 }
 
@@ -177,7 +177,7 @@ slow_writes : (b : Broker) (p : Plan) → Slow b p → SlowWrites b p.writes
 slow_writes b _ (Still p ws cs) = ws
 slow_writes b _ (Sends y i os) = Steady _ tt
 
--- behind a stop
+-- after a stop
 pub slow_halted : (per n : ℕ) (b : Broker) (k : ℕ) (p : Plan) → Slow b p → Below n b → Below (n + 1) (halted per b k p)
 slow_halted per n b k p s h =
     let ws = take k p.writes ++ write.Ledger ∷ [] in
@@ -250,8 +250,8 @@ reads_slow h b y q (Reads.Counts i e id answer u u' next is heard) = slow b q (q
 reads_slow h b y q (Reads.AsksAgain i e id answer u u' next is heard) = slow b q (quiet q (tt, (tt, tt)) (tt, (tt, tt)))
 reads_slow h b y q (Reads.Completes i e id answer u u' next is heard) = slow b q (quiet q (tt, (tt, tt)) (tt, (tt, tt)))
 reads_slow h b y q (Reads.CreatesAt i j e name remote next is named) = slow b q (quiet q (tt, (tt, (tt, tt))) (tt, (tt, tt)))
-reads_slow h b y q (Reads.PassesOver i j e name remote v ws next is named after) =
-    slow b q (quiet q (tt, each_both IsSteady ws (write.SenderAck y i ∷ []) (updates_steady h b _ ws after) (tt, tt)) (tt, (tt, tt)))
+reads_slow h b y q (Reads.ActsOnUpdate i j e name remote v ws next is named after) =
+    slow b q (quiet q (tt, each_both IsSteady ws (write.ReplicatorAck y i ∷ []) (updates_steady h b _ ws after) (tt, tt)) (tt, (tt, tt)))
 
 snaps_quiet : (h : Site) (b : Broker) (q : Plan) → Snaps h b q → IsQuiet q
 snaps_quiet h b q Snaps.NothingToAsk = quiet q tt tt
@@ -260,7 +260,7 @@ snaps_quiet h b q (Snaps.Asks any none) = quiet q (tt, tt) (tt, tt)
 offers_quiet : (h : Site) (b : Broker) (n : List ℕ) (q : Plan) → Offers h b n q → IsQuiet q
 offers_quiet h b n q Offers.NothingToOffer = quiet q tt tt
 offers_quiet h b n q (Offers.Gives v i at e due is picked) = quiet q tt (tt, tt)
-offers_quiet h b n q (Offers.PassesBy v i e ws due is after) = quiet q (tt, updates_steady h b _ ws after) (tt, (tt, tt))
+offers_quiet h b n q (Offers.SkipsMarker v i e ws due is after) = quiet q (tt, updates_steady h b _ ws after) (tt, (tt, tt))
 offers_quiet h b n q (Offers.Caches v i j e c ws due is after) = quiet q (tt, updates_steady h b _ ws after) (tt, (tt, (tt, tt)))
 
 seeks_slow : (h : Site) (b : Broker) (n : List ℕ) (to : Option Position) (q : Plan) → Seeks h b n to q → Slow b q

@@ -4,10 +4,10 @@ use Rattle.std.specs.Prelude.{if◌then◌else◌, cond, ◌&&◌, min, slice_se
 use Rattle.std.specs.List.{list_any}
 use Rattle.std.proofs.lemmas.Bool.{eqb-true, eq-eqb}
 use Rattle.std.proofs.lemmas.Bool.{false≢true}
-use Rattle.world_laws.proofs.Types.{Consumer, Outstanding, SubKind}
+use Rattle.world_laws.proofs.Types.{Consumer, Unacked, SubKind}
 use Rattle.world_laws.proofs.Types.sub_kind
 use Rattle.geo_base.specs.Cursor.{has}
-use Rattle.geo_base.specs.Dispatcher.{consumer_at, given, passed_index, served, used, with_out}
+use Rattle.geo_base.specs.Dispatcher.{consumer_at, given, skipped_index, served, used, with_out}
 use Rattle.geo_base.specs.Safe.{is_kept}
 use Rattle.geo_base.specs.Subscription.{Subscription, attached, detached, is_attached, is_of, most_permits, out_with, permitted}
 use Rattle.world_laws.proofs.Replicating.Cursors.{either, or_left, or_right}
@@ -25,7 +25,7 @@ consumers_remember m v ks stay r = record {
   where
     kept : (i : ℕ) → Kept v i → Kept (record v { consumers = ks }) i
     kept i (Kept.Out e) =
-        Kept.Out (any_weaker (λ (o : Outstanding). (o.index == i) && is_attached o.client v) (λ (o : Outstanding). (o.index == i) && list_any (is_of o.client) ks)
+        Kept.Out (any_weaker (λ (o : Unacked). (o.index == i) && is_attached o.client v) (λ (o : Unacked). (o.index == i) && list_any (is_of o.client) ks)
         (λ o h. second_follows (o.index == i) (is_attached o.client v) (list_any (is_of o.client) ks) h (stay o.client)) v.out e)
     kept i (Kept.Due e) = Kept.Due e
     kept i (Kept.Ahead e) = Kept.Ahead e
@@ -52,19 +52,19 @@ stays c d ks other h =
     any_kept (is_of d) (λ (k : Consumer). not (is_of c k))
     (λ k is. not_false (is_of c k) (subst (λ e. (e == c) ≡ false) (sym (eqb-true k.client d is)) other)) ks h
 
-abbrev is_out_among : List Consumer → ℕ → Outstanding → Bool
+abbrev is_out_among : List Consumer → ℕ → Unacked → Bool
 is_out_among ks i o = (o.index == i) && list_any (is_of o.client) ks
 
-left_or_due : (c i : ℕ) (ks : List Consumer) (os : List Outstanding) → list_any (is_out_among ks i) os ≡ true
-    → (list_any (is_out_among (filter (λ (k : Consumer). not (is_of c k)) ks) i) (filter (λ (o : Outstanding). not (o.client == c)) os) ≡ true) ⊎ (has (out_with c os) i ≡ true)
+left_or_due : (c i : ℕ) (ks : List Consumer) (os : List Unacked) → list_any (is_out_among ks i) os ≡ true
+    → (list_any (is_out_among (filter (λ (k : Consumer). not (is_of c k)) ks) i) (filter (λ (o : Unacked). not (o.client == c)) os) ≡ true) ⊎ (has (out_with c os) i ≡ true)
 left_or_due c i ks [] h = absurd (false≢true h)
 left_or_due c i ks (o ∷ os) h = by (o.client == c) refl (either (is_out_among ks i o) (list_any (is_out_among ks i) os) h) (left_or_due c i ks os)
   where
     left_ks : List Consumer
     left_ks = filter (λ (k : Consumer). not (is_of c k)) ks
 
-    rest : List Outstanding
-    rest = filter (λ (x : Outstanding). not (x.client == c)) os
+    rest : List Unacked
+    rest = filter (λ (x : Unacked). not (x.client == c)) os
 
     by : (t : Bool) → (o.client == c) ≡ t → (is_out_among ks i o ≡ true) ⊎ (list_any (is_out_among ks i) os ≡ true)
         → (list_any (is_out_among ks i) os ≡ true → (list_any (is_out_among left_ks i) rest ≡ true) ⊎ (has (out_with c os) i ≡ true))
@@ -81,9 +81,9 @@ detached_remembers m c v r = record {
   inside = λ i h.
       let none = r.inside i h in
       or_false _ _
-      (any_fewer (λ (o : Outstanding). o.index == i) (λ (o : Outstanding). not (o.client == c)) v.out (first_false (list_any (λ (o : Outstanding). o.index == i) v.out) _ none))
+      (any_fewer (λ (o : Unacked). o.index == i) (λ (o : Unacked). not (o.client == c)) v.out (first_false (list_any (λ (o : Unacked). o.index == i) v.out) _ none))
       (is_false _ (λ t. elim (has_either (filter (λ j. not (has v.cursor j)) (out_with c v.out)) v.due i t) [
-        | inl e ↦ unlike _ e (second_false (list_any (λ (o : Outstanding). o.index == i) v.out) _ none)
+        | inl e ↦ unlike _ e (second_false (list_any (λ (o : Unacked). o.index == i) v.out) _ none)
         | inr e ↦ unlike _ e (has_out (λ j. not (has v.cursor j)) (out_with c v.out) i (ap not h))
       ]));
   read = r.read;
@@ -100,13 +100,13 @@ detached_remembers m c v r = record {
     kept i h (Kept.Ahead e) = Kept.Ahead e
 
 -- one more index is out
-out_new : (p : Outstanding → Bool) (xs : List Outstanding) (o : Outstanding) → p o ≡ true → list_any p (with_out xs o) ≡ true
+out_new : (p : Unacked → Bool) (xs : List Unacked) (o : Unacked) → p o ≡ true → list_any p (with_out xs o) ≡ true
 out_new p [] o h = or_left (p o) _ h
 out_new p (x ∷ xs) o h =
     on_if (λ l. list_any p l ≡ true) (nat_lt o.index x.index) (o ∷ x ∷ xs) _ (or_left (p o) _ h)
     (on_if (λ l. list_any p l ≡ true) (x.index == o.index) (o ∷ xs) (x ∷ with_out xs o) (or_left (p o) _ h) (or_right (p x) _ (out_new p xs o h)))
 
-out_old : (p : Outstanding → Bool) (xs : List Outstanding) (o : Outstanding) → ((x : Outstanding) → p x ≡ true → (x.index == o.index) ≡ false)
+out_old : (p : Unacked → Bool) (xs : List Unacked) (o : Unacked) → ((x : Unacked) → p x ≡ true → (x.index == o.index) ≡ false)
     → list_any p xs ≡ true → list_any p (with_out xs o) ≡ true
 out_old p [] o k h = absurd (false≢true h)
 out_old p (x ∷ xs) o k h =
@@ -116,7 +116,7 @@ out_old p (x ∷ xs) o k h =
       | inr l ↦ on_if (λ l. list_any p l ≡ true) (x.index == o.index) (o ∷ xs) (x ∷ with_out xs o) (or_right (p o) _ l) (or_right (p x) _ (out_old p xs o k l))
     ])
 
-out_none : (p : Outstanding → Bool) (xs : List Outstanding) (o : Outstanding) → p o ≡ false → list_any p xs ≡ false → list_any p (with_out xs o) ≡ false
+out_none : (p : Unacked → Bool) (xs : List Unacked) (o : Unacked) → p o ≡ false → list_any p xs ≡ false → list_any p (with_out xs o) ≡ false
 out_none p [] o k h = or_false (p o) _ k h
 out_none p (x ∷ xs) o k h =
     let rest = second_false (p x) (list_any p xs) h in
@@ -163,19 +163,19 @@ given_remembers m i at v least permit r = record {
       let none = r.inside j h in
       let other : (i == j) ≡ false = is_false (i == j) (λ e. unlike (has v.cursor i) (subst (λ k. has v.cursor k ≡ true) (sym (eqb-true i j e)) h) (undued v i least.due)) in
       or_false _ _
-      (out_none (λ (o : Outstanding). o.index == j) v.out (record { index = i; client = (consumer_at v.consumers at).client }) other
-      (first_false (list_any (λ (o : Outstanding). o.index == j) v.out) _ none))
-      (has_fewer (λ k. not (k == i)) v.due j (second_false (list_any (λ (o : Outstanding). o.index == j) v.out) _ none));
+      (out_none (λ (o : Unacked). o.index == j) v.out (record { index = i; client = (consumer_at v.consumers at).client }) other
+      (first_false (list_any (λ (o : Unacked). o.index == j) v.out) _ none))
+      (has_fewer (λ k. not (k == i)) v.due j (second_false (list_any (λ (o : Unacked). o.index == j) v.out) _ none));
   read = let read = r.read in let high = least.high in omega (arith, read, high);
 }
   where
     client : ℕ
     client = (consumer_at v.consumers at).client
 
-    new : Outstanding
+    new : Unacked
     new = record { index = i; client = client }
 
-    is_now : ℕ → Outstanding → Bool
+    is_now : ℕ → Unacked → Bool
     is_now j o = (o.index == j) && list_any (is_of o.client) (served v.kind v.consumers at)
 
     here : (j : ℕ) → (j == i) ≡ true → Kept (given i at v) j
@@ -185,11 +185,11 @@ given_remembers m i at v least permit r = record {
         (subst (λ (t : Bool). (t && true) ≡ true) (sym (eq-eqb i j (sym (eqb-true j i is)))) refl)
         (λ _. served_stay v.kind client at v.consumers (permitted_there at v.consumers permit))))
 
-    still : (j : ℕ) → (j == i) ≡ false → Kept (passed_index i v) j → Kept (given i at v) j
+    still : (j : ℕ) → (j == i) ≡ false → Kept (skipped_index i v) j → Kept (given i at v) j
     still j other (Kept.Out e) =
         Kept.Out (out_old (is_now j) v.out new
         (λ x is. subst (λ k. (k == i) ≡ false) (sym (eqb-true x.index j (left (x.index == j) _ is))) other)
-        (any_weaker (λ (o : Outstanding). (o.index == j) && is_attached o.client v) (is_now j)
+        (any_weaker (λ (o : Unacked). (o.index == j) && is_attached o.client v) (is_now j)
         (λ o h. second_follows (o.index == j) (is_attached o.client v) _ h (served_stay v.kind o.client at v.consumers)) v.out e))
     still j other (Kept.Due e) = Kept.Due e
     still j other (Kept.Ahead e) = Kept.Ahead e

@@ -14,6 +14,7 @@ use Rattle.geo_base.specs.Laws.{due_from, has_permits}
 use Rattle.geo_base.specs.Subscription.{Subscription}
 use Rattle.world_laws.proofs.TopicOrder.Ledgers.{total}
 use Rattle.world_laws.proofs.Walks.Walk.{by_test, left, right}
+use Rattle.geo_base.proofs.Bools.{and_of_both}
 
 -- where no more is due, no more messages are
 fewer : (d a b : Bool) (x y : ℕ) → (a ≡ true → b ≡ true) → x ≤ y → (if d && a then 1 else 0) + x ≤ (if d && b then 1 else 0) + y
@@ -77,13 +78,9 @@ sum_total (x ∷ xs) = sum_by-cons (λ (y : ℕ). y) x xs ∙ ap (λ (n : ℕ). 
 below_both : (a b c : ℕ) → a ≤ b → nat_le b c ≡ true → nat_le a c ≡ true
 below_both a b c le h = grind (arith, nat_tests)
 
-both_true : (a b : Bool) → a ≡ true → b ≡ true → (a && b) ≡ true
-both_true true b h k = k
-both_true false b h k = absurd (false≢true h)
-
 all_fewer : (n n' : ℕ) → n' ≤ n → (ks : List Consumer) → list_all (has_many n) ks ≡ true → list_all (has_many n') ks ≡ true
 all_fewer n n' le [] h = refl
-all_fewer n n' le (k ∷ ks) h = both_true (nat_le n' k.permits) _ (below_both n' n k.permits le (left (nat_le n k.permits) _ h)) (all_fewer n n' le ks (right (nat_le n k.permits) _ h))
+all_fewer n n' le (k ∷ ks) h = and_of_both (nat_le n' k.permits) _ (below_both n' n k.permits le (left (nat_le n k.permits) _ h)) (all_fewer n n' le ks (right (nat_le n k.permits) _ h))
 
 -- permits for many are permits for fewer
 pub permits_fewer : (kind : SubKind) (ks : List Consumer) (n n' : ℕ) → n' ≤ n → has_permits kind ks n ≡ true → has_permits kind ks n' ≡ true
@@ -104,9 +101,9 @@ first_used (k ∷ ks) n n' le h = one_used n n' k.permits le h
 all_used : (ks : List Consumer) (at n n' : ℕ) → n' + 1 ≤ n → list_all (has_many n) ks ≡ true → list_all (has_many n') (slice_set ks at (used (consumer_at ks at))) ≡ true
 all_used [] at n n' le h = refl
 all_used (k ∷ ks) zero n n' le h =
-    both_true (nat_le n' (k.permits - 1)) _ (one_used n n' k.permits le (left (nat_le n k.permits) _ h)) (all_fewer n n' (omega (arith, le)) ks (right (nat_le n k.permits) _ h))
+    and_of_both (nat_le n' (k.permits - 1)) _ (one_used n n' k.permits le (left (nat_le n k.permits) _ h)) (all_fewer n n' (omega (arith, le)) ks (right (nat_le n k.permits) _ h))
 all_used (k ∷ ks) (suc at) n n' le h =
-    both_true (nat_le n' k.permits) _ (below_both n' n k.permits (omega (arith, le)) (left (nat_le n k.permits) _ h)) (all_used ks at n n' le (right (nat_le n k.permits) _ h))
+    and_of_both (nat_le n' k.permits) _ (below_both n' n k.permits (omega (arith, le)) (left (nat_le n k.permits) _ h)) (all_used ks at n n' le (right (nat_le n k.permits) _ h))
 
 total_push : (ks : List Consumer) (k : Consumer) → total (map permits_of (ks ++ k ∷ [])) ≡ total (map permits_of ks) + k.permits
 total_push [] k = omega arith

@@ -44,7 +44,7 @@ done_keeping per b p new keep =
       apart = done_apart per b p keep.apart;
     }
 
--- a stop, behind whatever writes, leaves nothing in memory
+-- a stop, after whatever writes, leaves nothing in memory
 halted_keeping : (per : ℕ) (b : Broker) (k : ℕ) (p : Plan) → Keeping b → Keeping (halted per b k p)
 halted_keeping per b k p keep =
     let b' = all_written per b (take k p.writes ++ write.Ledger ∷ []) in

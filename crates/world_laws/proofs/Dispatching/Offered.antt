@@ -12,11 +12,11 @@ use Rattle.geo_base.specs.Broker.{Broker, Site, no_broker, sub_named}
 use Rattle.geo_base.specs.Cache.{cached}
 use Rattle.geo_base.specs.Client.{Acted}
 use Rattle.geo_base.specs.Cursor.{has}
-use Rattle.geo_base.specs.Dispatcher.{is_due, least_due, passed_index, pick}
+use Rattle.geo_base.specs.Dispatcher.{is_due, least_due, skipped_index, pick}
 use Rattle.geo_base.specs.Entry.{is_data, key_bytes}
 use Rattle.geo_base.specs.Happening.{broker_does, broker_halts, client_does, does_planned, halts_planned, happens}
 use Rattle.geo_base.specs.Laws.{IsAllOut, IsServed, LawOffers, Offered, is_elsewhere}
-use Rattle.geo_base.specs.Offering.{offer, offer_entry, own_snapshot, passes_by}
+use Rattle.geo_base.specs.Offering.{offer, offer_entry, own_snapshot, skips_marker}
 use Rattle.geo_base.specs.Plan.{Plan, done, idle_plan, plan_of}
 use Rattle.geo_base.specs.Planned.{Planned, has_client, has_node, in_range, planned, plan_at}
 use Rattle.geo_base.specs.Safe.{is_out}
@@ -43,20 +43,20 @@ use Rattle.world_laws.proofs.Walks.Walk.{by_test, on_found, on_if, on_test, on_t
 -- a marker without a snapshot for the cache
 plain_served : (h : Site) (b : Broker) (n : List ℕ) (m k i : ℕ) (v x : Subscription) (ws : List Write) → Serving m k n b v → least_due v (length b.entries) ≡ Some i
     → Updates h b x ws
-    → Served m (suc k) n (done h.per_ledger b (plan_of (write.Acks v.name (i ∷ []) ∷ ws) (change.Passed v.name i ∷ change.Acked v.name ∷ []) []))
+    → Served m (suc k) n (done h.per_ledger b (plan_of (write.Acks v.name (i ∷ []) ∷ ws) (change.Skipped v.name i ∷ change.Acked v.name ∷ []) []))
 plain_served h b n m k i v x ws s least up = by ws up
   where
     acks : Subscription → Subscription
     acks = with_acks (i ∷ [])
 
     passes : Subscription → Subscription
-    passes = passed_index i
+    passes = skipped_index i
 
     u : Subscription
     u = after_acks (passes (acks v))
 
     after : List Write → Broker
-    after ws = done h.per_ledger b (plan_of (write.Acks v.name (i ∷ []) ∷ ws) (change.Passed v.name i ∷ change.Acked v.name ∷ []) [])
+    after ws = done h.per_ledger b (plan_of (write.Acks v.name (i ∷ []) ∷ ws) (change.Skipped v.name i ∷ change.Acked v.name ∷ []) [])
 
     is_own : at_name v.name after_acks (at_name v.name passes (at_name v.name acks v)) ≡ u
     is_own =
@@ -82,7 +82,7 @@ plain_served h b n m k i v x ws s least up = by ws up
 -- and with one
 cached_served : (h : Site) (b : Broker) (n : List ℕ) (m k i : ℕ) (v x : Subscription) (c : CachedSnapshot) (ws : List Write) → Serving m k n b v
     → least_due v (length b.entries) ≡ Some i → Updates h b x ws
-    → Served m (suc k) n (done h.per_ledger b (plan_of (write.Acks v.name (i ∷ []) ∷ ws) (change.Cache v.name c ∷ change.Passed v.name i ∷ change.Acked v.name ∷ []) []))
+    → Served m (suc k) n (done h.per_ledger b (plan_of (write.Acks v.name (i ∷ []) ∷ ws) (change.Cache v.name c ∷ change.Skipped v.name i ∷ change.Acked v.name ∷ []) []))
 cached_served h b n m k i v x c ws s least up = by ws up
   where
     acks : Subscription → Subscription
@@ -92,13 +92,13 @@ cached_served h b n m k i v x c ws s least up = by ws up
     caches z = record z { cache = cached z.cache c }
 
     passes : Subscription → Subscription
-    passes = passed_index i
+    passes = skipped_index i
 
     u : Subscription
     u = after_acks (passes (caches (acks v)))
 
     after : List Write → Broker
-    after ws = done h.per_ledger b (plan_of (write.Acks v.name (i ∷ []) ∷ ws) (change.Cache v.name c ∷ change.Passed v.name i ∷ change.Acked v.name ∷ []) [])
+    after ws = done h.per_ledger b (plan_of (write.Acks v.name (i ∷ []) ∷ ws) (change.Cache v.name c ∷ change.Skipped v.name i ∷ change.Acked v.name ∷ []) [])
 
     is_own : at_name v.name after_acks (at_name v.name passes (at_name v.name caches (at_name v.name acks v))) ≡ u
     is_own =
@@ -128,13 +128,13 @@ cached_served h b n m k i v x c ws s least up = by ws up
         (u, pushed_served (after []) (after (write.Append (update_marker h b x.name cut) ∷ [])) n m (suc k) (update_marker h b x.name cut) u refl refl refl base)
 
 marker_served : (h : Site) (b : Broker) (n : List ℕ) (m k i : ℕ) (v : Subscription) (o : Option CachedSnapshot) → Serving m k n b v
-    → least_due v (length b.entries) ≡ Some i → Served m (suc k) n (done h.per_ledger b (passes_by h b v i o))
+    → least_due v (length b.entries) ≡ Some i → Served m (suc k) n (done h.per_ledger b (skips_marker h b v i o))
 marker_served h b n m k i v None s least = plain_served h b n m k i v (with_acks (i ∷ []) v) (update_after h b (with_acks (i ∷ []) v)) s least (updates_after h b (with_acks (i ∷ []) v))
 marker_served h b n m k i v (Some c) s least =
     let x : Subscription = with_acks (i ∷ []) (record v { cache = cached v.cache c }) in
     cached_served h b n m k i v x c (update_after h b x) s least (updates_after h b x)
 
--- the broker behind an offer
+-- the broker after an offer
 abbrev offered : Site → Broker → Plan → Broker
 offered h b p = if p.idle then b else done h.per_ledger b p
 
@@ -148,11 +148,11 @@ entry_served h b n m k i v e s least stands =
     (λ plain. on_found (Behind h b n m (suc k)) idle_plan (pick v.kind v.consumers (key_bytes e.meta.key)) _
     (λ none. absurd (pick_some v.kind v.consumers (key_bytes e.meta.key) _ s.some (due_one v b.entries i e (least_due_is v 0 (length b.entries) i least) stands plain) s.permits none))
     (λ at picked. record { served = given_served h b n m k i at v e s least stands plain picked }))
-    (λ other. passing (own_snapshot h b v e.ident.origin e.content))
+    (λ other. update_writes (own_snapshot h b v e.ident.origin e.content))
   where
-    passing : (o : Option CachedSnapshot) → Behind h b n m (suc k) (passes_by h b v i o)
-    passing None = record { served = marker_served h b n m k i v None s least }
-    passing (Some c) = record { served = marker_served h b n m k i v (Some c) s least }
+    update_writes : (o : Option CachedSnapshot) → Behind h b n m (suc k) (skips_marker h b v i o)
+    update_writes None = record { served = marker_served h b n m k i v None s least }
+    update_writes (Some c) = record { served = marker_served h b n m k i v (Some c) s least }
 
 offer_served : (h : Site) (b : Broker) (n : List ℕ) (m k : ℕ) (v : Subscription) → Serving m k n b v → Behind h b n m (suc k) (offer h b n)
 unfolding offer

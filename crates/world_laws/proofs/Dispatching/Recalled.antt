@@ -9,7 +9,7 @@ use Rattle.world_laws.proofs.Types.write
 use Rattle.geo_base.specs.Broker.{Broker, Site, sub_named, written}
 use Rattle.geo_base.specs.Cache.{cached}
 use Rattle.geo_base.specs.Cursor.{below}
-use Rattle.geo_base.specs.Dispatcher.{given, passed_index}
+use Rattle.geo_base.specs.Dispatcher.{given, skipped_index}
 use Rattle.geo_base.specs.Entry.{key_bytes}
 use Rattle.geo_base.specs.Forwarding.{closes}
 use Rattle.geo_base.specs.Plan.{Plan, done, plan_of, quiet_plan}
@@ -17,7 +17,7 @@ use Rattle.geo_base.specs.Planned.{Planned}
 use Rattle.geo_base.specs.Seeking.{restart}
 use Rattle.geo_base.specs.Setup.{Setup}
 use Rattle.geo_base.specs.Subscription.{Subscription, after_acks, attached, cleared, new_subscription, permitted, sought, with_acks}
-use Rattle.geo_base.specs.Updating.{passed_over}
+use Rattle.geo_base.specs.Updating.{updated_indexes}
 use Rattle.geo_base.specs.World.{World, site, topic_at}
 use Rattle.world_laws.proofs.Replicating.Cursors.{has_it}
 use Rattle.world_laws.proofs.Dispatching.Dispatched.{attached_remembers, detached_remembers, given_remembers, permitted_remembers}
@@ -146,15 +146,15 @@ reads_recalled per h b y q (Reads.AsksAgain i e id answer u u' next is heard) ke
 reads_recalled per h b y q (Reads.Completes i e id answer u u' next is heard) keep = changes_recalled per b q (tt, (tt, tt)) (λ v r. r) keep
 reads_recalled per h b y q (Reads.CreatesAt i j e n remote next is named) keep =
     let m = length b.entries in
-    let is = passed_over y 0 (j + 1) b.entries in
+    let is = updated_indexes y 0 (j + 1) b.entries in
     let b' = written per b (write.Create n sub_kind.Exclusive true false) in
-    done_subs (Remembers m) (Remembers m) per b' (plan_of (write.Acks n is ∷ write.SenderAck y i ∷ []) (change.Acked n ∷ change.ReadTo y (i + 1) ∷ []) []) (tt, (tt, tt))
-    (acked m n is (write.SenderAck y i ∷ []) (tt, tt))
+    done_subs (Remembers m) (Remembers m) per b' (plan_of (write.Acks n is ∷ write.ReplicatorAck y i ∷ []) (change.Acked n ∷ change.ReadTo y (i + 1) ∷ []) []) (tt, (tt, tt))
+    (acked m n is (write.ReplicatorAck y i ∷ []) (tt, tt))
     (created_subs (Remembers m) per b n sub_kind.Exclusive true false keep.all (unread m (new_subscription n sub_kind.Exclusive true []) refl refl refl))
-reads_recalled per h b y q (Reads.PassesOver i j e n remote v ws next is named after) keep =
+reads_recalled per h b y q (Reads.ActsOnUpdate i j e n remote v ws next is named after) keep =
     let m = length b.entries in
-    let aside = each_both Aside ws (write.SenderAck y i ∷ []) (updates_aside h b _ ws after) (tt, tt) in
-    done_subs (Remembers m) (Remembers m) per b q (tt, aside_creates (ws ++ write.SenderAck y i ∷ []) aside) (acked m n (passed_over y 0 (j + 1) b.entries) (ws ++ write.SenderAck y i ∷ []) aside) keep.all
+    let aside = each_both Aside ws (write.ReplicatorAck y i ∷ []) (updates_aside h b _ ws after) (tt, tt) in
+    done_subs (Remembers m) (Remembers m) per b q (tt, aside_creates (ws ++ write.ReplicatorAck y i ∷ []) aside) (acked m n (updated_indexes y 0 (j + 1) b.entries) (ws ++ write.ReplicatorAck y i ∷ []) aside) keep.all
 
 snaps_recalled : (per : ℕ) (h : Site) (b : Broker) (q : Plan) → Snaps h b q → Keeping b → Recalls per b q
 snaps_recalled per h b q Snaps.NothingToAsk keep = changes_recalled per b q tt (λ v r. r) keep
@@ -173,10 +173,10 @@ only_keeps m v f new u h =
     on_test (Remembers m) (bytes_eq u.name v.name) (f u) u (λ is. subst (λ (x : Subscription). Remembers m (f x)) (sym (h.1 is)) new) (λ _. h.0)
 
 -- a marker is passed, v being the subscription with whatever cache
-pub marker_passed : (m i : ℕ) (v : Subscription) → IsLeast v 0 m i → Nearly m v → Remembers m (after_acks (passed_index i (with_acks (i ∷ []) v)))
+pub marker_passed : (m i : ℕ) (v : Subscription) → IsLeast v 0 m i → Nearly m v → Remembers m (after_acks (skipped_index i (with_acks (i ∷ []) v)))
 marker_passed m i v least r =
     let high = least.high in
-    after_acks_remembers m (passed_index i (with_acks (i ∷ []) v))
+    after_acks_remembers m (skipped_index i (with_acks (i ∷ []) v))
     (passed_nearly m i (with_acks (i ∷ []) v) (omega (arith, high)) (has_it v.cursor i)
     (λ j lo h. below_least v 0 m i j least (omega arith) lo (before_more (i ∷ []) v.cursor j h))
     (record { outside = λ j lt h. r.outside j lt (before_more (i ∷ []) v.cursor j h); read = r.read }))
@@ -187,11 +187,11 @@ offers_recalled per h b n q (Offers.Gives v i at e due is picked) keep =
     let m = length b.entries in
     let new = given_remembers m i at v (least_due_is v 0 m i due.1) (pick_has v.kind v.consumers (key_bytes e.meta.key) at picked) (found_remembers b n v due.0 keep) in
     done_subs (λ (u : Subscription). Remembers m u × Only v u) (Remembers m) per b q tt (only_keeps m v (given i at) new) (found_one b n v due.0 keep)
-offers_recalled per h b n q (Offers.PassesBy v i e ws due is after) keep =
+offers_recalled per h b n q (Offers.SkipsMarker v i e ws due is after) keep =
     let m = length b.entries in
     let aside = updates_aside h b _ ws after in
     let acks : Subscription → Subscription = with_acks (i ∷ []) in
-    let passes : Subscription → Subscription = passed_index i in
+    let passes : Subscription → Subscription = skipped_index i in
     let new = marker_passed m i v (least_due_is v 0 m i due.1) (nearly m v (found_remembers b n v due.0 keep)) in
     done_subs (λ (u : Subscription). Remembers m u × Only v u) (Remembers m) per b q (tt, aside_creates ws aside)
     (λ u k. behind (λ (x : Subscription). Remembers m (at_name v.name after_acks (at_name v.name passes x))) (at_name v.name acks u) ws aside
@@ -204,7 +204,7 @@ offers_recalled per h b n q (Offers.Caches v i j e c ws due is after) keep =
     let aside = updates_aside h b _ ws after in
     let acks : Subscription → Subscription = with_acks (i ∷ []) in
     let caches : Subscription → Subscription = λ s. record s { cache = cached s.cache c } in
-    let passes : Subscription → Subscription = passed_index i in
+    let passes : Subscription → Subscription = skipped_index i in
     let r = found_remembers b n v due.0 keep in
     let least = least_due_is v 0 m i due.1 in
     let new = marker_passed m i (caches v) (record { low = least.low; high = least.high; due = least.due; before = least.before }) (record { outside = r.outside; read = r.read }) in

@@ -5,22 +5,23 @@ use Rattle.std.specs.List.{list_any}
 use Rattle.std.proofs.lemmas.Bool.{eqb-true, eq-eqb, false≢true}
 use Rattle.std.proofs.lemmas.Bool.Decides.{nat_tests}
 use Rattle.std.proofs.lemmas.Option.{none-some, same_Some}
-use Rattle.world_laws.proofs.Types.{Outstanding}
+use Rattle.world_laws.proofs.Types.{Unacked}
 use Rattle.geo_base.specs.Cursor.{has, with_index, with_indexes}
-use Rattle.geo_base.specs.Dispatcher.{is_due, least_due_from, passed_index}
+use Rattle.geo_base.specs.Dispatcher.{is_due, least_due_from, skipped_index}
 use Rattle.geo_base.specs.Safe.{is_kept, is_out}
 use Rattle.geo_base.specs.Subscription.{Subscription, after_acks, is_attached, with_acks}
 use Rattle.world_laws.proofs.Replicating.Cursors.{either, has_it, has_less, has_more, or_left, or_right}
 use Rattle.world_laws.proofs.OnceInOrder.Members.{below_or}
 use Rattle.world_laws.proofs.Walks.Walk.{by_test, on_if, on_test, left}
+pub use Rattle.geo_base.proofs.Bools.{or_not_first as first_false, or_not_second as second_false}
 
 -- m is the number of entries
 pub record Remembers (m : ℕ) (v : Subscription) : Type 0 where
   pub outside : (i : ℕ) → i < m → has v.cursor i ≡ false → is_kept v i ≡ true
-  pub inside : (i : ℕ) → has v.cursor i ≡ true → (list_any (λ (o : Outstanding). o.index == i) v.out || has v.due i) ≡ false
+  pub inside : (i : ℕ) → has v.cursor i ≡ true → (list_any (λ (o : Unacked). o.index == i) v.out || has v.due i) ≡ false
   pub read : v.read_index ≤ m
 
--- the same without what it says of the cursor's inside: a write of a cursor breaks that, and the change behind it brings it back
+-- the same without what it says of the cursor's inside: a write of a cursor breaks that, and the change after it brings it back
 pub record Nearly (m : ℕ) (v : Subscription) : Type 0 where
   pub outside : (i : ℕ) → i < m → has v.cursor i ≡ false → is_kept v i ≡ true
   pub read : v.read_index ≤ m
@@ -40,14 +41,6 @@ not_false false h = refl
 pub or_false : (a b : Bool) → a ≡ false → b ≡ false → (a || b) ≡ false
 or_false true b h k = absurd (false≢true (sym h))
 or_false false b h k = k
-
-pub first_false : (a b : Bool) → (a || b) ≡ false → a ≡ false
-first_false true b h = absurd (false≢true (sym h))
-first_false false b h = refl
-
-pub second_false : (a b : Bool) → (a || b) ≡ false → b ≡ false
-second_false true b h = absurd (false≢true (sym h))
-second_false false b h = h
 
 pub unlike : (b : Bool) → b ≡ true → b ≡ false → ⊥
 unlike b h k = false≢true (sym k ∙ h)
@@ -167,7 +160,7 @@ pub unread : (m : ℕ) (v : Subscription) → v.out ≡ [] → v.due ≡ [] → 
 unread m v out due zero_read = record {
   outside = λ i lt h. so_kept v i (Kept.Ahead (grind (arith, nat_tests, zero_read)));
   inside = λ i h.
-      subst (λ (os : List Outstanding). (list_any (λ (o : Outstanding). o.index == i) os || has v.due i) ≡ false) (sym out)
+      subst (λ (os : List Unacked). (list_any (λ (o : Unacked). o.index == i) os || has v.due i) ≡ false) (sym out)
       (subst (λ (ds : List ℕ). has ds i ≡ false) (sym due) refl);
   read = omega (arith, zero_read);
 }
@@ -181,7 +174,7 @@ after_acks_remembers m v r = record {
   outside = λ i lt h. kept_as v (after_acks v) i (kept i h) (r.outside i lt h);
   inside = λ i h.
       or_false _ _
-      (any_gone (λ (o : Outstanding). o.index == i) (λ (o : Outstanding). not (has v.cursor o.index))
+      (any_gone (λ (o : Unacked). o.index == i) (λ (o : Unacked). not (has v.cursor o.index))
       (λ o left is. unlike (has v.cursor o.index) (subst (λ j. has v.cursor j ≡ true) (sym (eqb-true o.index i is)) h) (not_true (has v.cursor o.index) left)) v.out)
       (has_out (λ j. not (has v.cursor j)) v.due i (ap not h));
   read = r.read;
@@ -193,7 +186,7 @@ after_acks_remembers m v r = record {
 
     kept : (i : ℕ) → has v.cursor i ≡ false → Kept v i → Kept (after_acks v) i
     kept i h (Kept.Out e) =
-        Kept.Out (any_kept (λ (o : Outstanding). (o.index == i) && is_attached o.client v) (λ (o : Outstanding). not (has v.cursor o.index))
+        Kept.Out (any_kept (λ (o : Unacked). (o.index == i) && is_attached o.client v) (λ (o : Unacked). not (has v.cursor o.index))
         (λ o is. not_false (has v.cursor o.index) (subst (λ j. has v.cursor j ≡ false) (sym (eqb-true o.index i (left (o.index == i) _ is))) h)) v.out e)
     kept i h (Kept.Due e) = Kept.Due (has_left (λ j. not (has v.cursor j)) v.due i e (not_false (has v.cursor i) h))
     kept i h (Kept.Ahead e) = Kept.Ahead e
@@ -244,7 +237,7 @@ pub below_least : (v : Subscription) (from more i j : ℕ) → IsLeast v from mo
 below_least v from more i j l lo hi h = undue (has v.cursor j) _ (l.before j lo hi) h
 
 -- reading passes an index: another one that is outside is kept as it was
-pub passed_kept : (m i j : ℕ) (v : Subscription) → (j == i) ≡ false → (j < i → (has v.due j || nat_le v.read_index j) ≡ false) → Kept v j → Kept (passed_index i v) j
+pub passed_kept : (m i j : ℕ) (v : Subscription) → (j == i) ≡ false → (j < i → (has v.due j || nat_le v.read_index j) ≡ false) → Kept v j → Kept (skipped_index i v) j
 passed_kept m i j v other below (Kept.Out e) = Kept.Out e
 passed_kept m i j v other below (Kept.Due e) = Kept.Due (has_left (λ k. not (k == i)) v.due j e (ap not other))
 passed_kept m i j v other below (Kept.Ahead e) =
@@ -254,10 +247,10 @@ passed_kept m i j v other below (Kept.Ahead e) =
     ]
 
 pub passed_nearly : (m i : ℕ) (v : Subscription) → i < m → has v.cursor i ≡ true → ((j : ℕ) → j < i → has v.cursor j ≡ false → (has v.due j || nat_le v.read_index j) ≡ false)
-    → Nearly m v → Nearly m (passed_index i v)
+    → Nearly m v → Nearly m (skipped_index i v)
 passed_nearly m i v lt here below r = record {
   outside = λ j small h.
       let other = is_false (j == i) (λ e. unlike (has v.cursor i) here (subst (λ k. has v.cursor k ≡ false) (eqb-true j i e) h)) in
-      kept_as v (passed_index i v) j (passed_kept m i j v other (λ lo. below j lo h)) (r.outside j small h);
+      kept_as v (skipped_index i v) j (passed_kept m i j v other (λ lo. below j lo h)) (r.outside j small h);
   read = let read = r.read in omega (arith, read, lt);
 }

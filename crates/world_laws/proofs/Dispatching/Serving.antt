@@ -11,7 +11,7 @@ use Rattle.world_laws.proofs.Types.{Consumer, Entry, SubKind}
 use Rattle.world_laws.proofs.Types.change
 use Rattle.geo_base.specs.Broker.{Broker, Site, sub_named}
 use Rattle.geo_base.specs.Cursor.{has, with_indexes}
-use Rattle.geo_base.specs.Dispatcher.{consumer_at, given, is_due, least_due, passed_index, pick, served}
+use Rattle.geo_base.specs.Dispatcher.{consumer_at, given, is_due, least_due, skipped_index, pick, served}
 use Rattle.geo_base.specs.Entry.{is_data, key_bytes}
 use Rattle.geo_base.specs.Laws.{due_from, has_permits}
 use Rattle.geo_base.specs.Offering.{message}
@@ -25,6 +25,7 @@ use Rattle.world_laws.proofs.Merges.PeerWalk.{pick_has}
 use Rattle.world_laws.proofs.Dispatching.Remembers.{IsLeast, before_more, has_fewer, has_out, is_false, least_due_is, unlike}
 use Rattle.world_laws.proofs.Dispatching.SubFrames.{at_name, named_same}
 use Rattle.world_laws.proofs.Walks.Walk.{by_test}
+use Rattle.geo_base.proofs.Sums.{le_of_max}
 
 -- a name finds the same subscription again
 pub named_map : (f : Subscription → Subscription) → ((u : Subscription) → (f u).name ≡ u.name) → (vs : List Subscription) (n : List ℕ) (v : Subscription) → sub_named vs n ≡ Some v
@@ -61,9 +62,6 @@ due_parts false false c h false false c' f g k = k h
 still_due : (p : ℕ → Bool) (due : List ℕ) (j : ℕ) → has (filter p due) j ≡ true → has due j ≡ true
 still_due p due j h = by_test (has due j) (λ is. is) (λ is. absurd (unlike _ h (has_fewer p due j is)))
 
-read_on : (r i j : ℕ) → nat_le (max r (i + 1)) j ≡ true → nat_le r j ≡ true
-read_on r i j h = grind (arith, nat_tests)
-
 read_past : (r i : ℕ) → nat_le (max r (i + 1)) i ≡ false
 read_past r i = grind (arith, nat_tests)
 
@@ -80,12 +78,12 @@ given_lowers : (v : Subscription) (i at : ℕ) → Lowers v (given i at v) i
 given_lowers v i at = record {
   less = λ j h.
       due_parts (has v.cursor j) (has (filter (λ k. not (k == i)) v.due) j) (nat_le (max v.read_index (i + 1)) j) h (has v.cursor j) (has v.due j) (nat_le v.read_index j)
-      (λ e. e) (still_due (λ k. not (k == i)) v.due j) (read_on v.read_index i j);
+      (λ e. e) (still_due (λ k. not (k == i)) v.due j) (le_of_max v.read_index i j);
   gone = not_due (has v.cursor i) _ _ (has_out (λ k. not (k == i)) v.due i (ap not (eq-eqb i i refl))) (read_past v.read_index i);
 }
 
 abbrev pub after_marker : ℕ → Subscription → Subscription
-after_marker i v = after_acks (passed_index i (with_acks (i ∷ []) v))
+after_marker i v = after_acks (skipped_index i (with_acks (i ∷ []) v))
 
 pub marker_lowers : (v : Subscription) (i : ℕ) → Lowers v (after_marker i v) i
 marker_lowers v i =
@@ -94,7 +92,7 @@ marker_lowers v i =
     record {
       less = λ j h.
           due_parts (has c j) (has (filter (λ k. not (has c k)) passed) j) (nat_le (max v.read_index (i + 1)) j) h (has v.cursor j) (has v.due j) (nat_le v.read_index j)
-          (before_more (i ∷ []) v.cursor j) (λ e. still_due (λ k. not (k == i)) v.due j (still_due (λ k. not (has c k)) passed j e)) (read_on v.read_index i j);
+          (before_more (i ∷ []) v.cursor j) (λ e. still_due (λ k. not (k == i)) v.due j (still_due (λ k. not (has c k)) passed j e)) (le_of_max v.read_index i j);
       gone = acked_due (has c i) _ (has_it v.cursor i);
     }
 
@@ -152,7 +150,7 @@ given_served h b n m k i at v e s least stands plain picked =
       },
     )
 
--- a marker is passed: u is the subscription behind it, and the topic may have an update marker more
+-- a marker is passed: u is the subscription after it, and the topic may have an update marker more
 kept_late : (es : List Entry) (f : Entry) (m : ℕ) → is_data f.content ≡ false → ((i : ℕ) (e : Entry) → m ≤ i → slice_get es i ≡ Some e → is_data e.content ≡ false)
     → (i : ℕ) (e : Entry) → m ≤ i → slice_get (es ++ f ∷ []) i ≡ Some e → is_data e.content ≡ false
 kept_late es f m other late i e le at =

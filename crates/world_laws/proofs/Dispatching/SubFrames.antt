@@ -12,7 +12,7 @@ use Rattle.world_laws.proofs.Types.write
 use Rattle.geo_base.specs.Broker.{Broker, changed, sub_named, written}
 use Rattle.geo_base.specs.Cache.{cached}
 use Rattle.geo_base.specs.Cursor.{below}
-use Rattle.geo_base.specs.Dispatcher.{given, passed_index}
+use Rattle.geo_base.specs.Dispatcher.{given, skipped_index}
 use Rattle.geo_base.specs.Plan.{Plan, all_changed, all_written, done}
 use Rattle.geo_base.specs.Subscription.{Subscription, after_acks, attached, cleared, detached, new_subscription, permitted, sought, with_acks}
 use Rattle.world_laws.proofs.Replicating.Effects.{Each, each_both, each_map}
@@ -68,7 +68,7 @@ abbrev pub sub_changed : Subscription → Change → Subscription
 sub_changed v (change.Attach n k) = at_name n (attached k) v
 sub_changed v (change.Detach c) = detached c v
 sub_changed v (change.Permit n c permits) = at_name n (permitted c permits) v
-sub_changed v (change.Passed n i) = at_name n (passed_index i) v
+sub_changed v (change.Skipped n i) = at_name n (skipped_index i) v
 sub_changed v (change.Given n i at) = at_name n (given i at) v
 sub_changed v (change.Cache n c) = at_name n (λ s. record s { cache = cached s.cache c }) v
 sub_changed v (change.Acked n) = at_name n after_acks v
@@ -93,7 +93,7 @@ written_subs F G per b (write.Acks n is) none k h = each_to F G (at_name n (with
 written_subs F G per b (write.Seek n i) none k h = each_to F G (at_name n (sought i)) k b.subs h
 written_subs F G per b (write.Delete n) none k h = each_filter G (λ (s : Subscription). not (bytes_eq s.name n)) b.subs (each_map F G k b.subs h)
 written_subs F G per b (write.Append e) none k h = each_map F G k b.subs h
-written_subs F G per b (write.SenderAck y i) none k h = each_map F G k b.subs h
+written_subs F G per b (write.ReplicatorAck y i) none k h = each_map F G k b.subs h
 written_subs F G per b (write.SessionNumber y n) none k h = each_map F G k b.subs h
 written_subs F G per b write.Ledger none k h = each_map F G k b.subs h
 
@@ -107,7 +107,7 @@ changed_subs : (F G : Subscription → Type 0) (b : Broker) (c : Change) → ((v
 changed_subs F G b (change.Attach n k') k h = each_to F G (at_name n (attached k')) k b.subs h
 changed_subs F G b (change.Detach c) k h = each_to F G (detached c) k b.subs h
 changed_subs F G b (change.Permit n c permits) k h = each_to F G (at_name n (permitted c permits)) k b.subs h
-changed_subs F G b (change.Passed n i) k h = each_to F G (at_name n (passed_index i)) k b.subs h
+changed_subs F G b (change.Skipped n i) k h = each_to F G (at_name n (skipped_index i)) k b.subs h
 changed_subs F G b (change.Given n i at) k h = each_to F G (at_name n (given i at)) k b.subs h
 changed_subs F G b (change.Cache n c) k h = each_to F G (at_name n (λ s. record s { cache = cached s.cache c })) k b.subs h
 changed_subs F G b (change.Acked n) k h = each_to F G (at_name n after_acks) k b.subs h
@@ -133,14 +133,14 @@ pub created_subs : (F : Subscription → Type 0) (per : ℕ) (b : Broker) (n : L
 created_subs F per b n kind replicated latest h new =
     on_if (AllSubs F) (is_some (sub_named b.subs n)) b _ h (each_both F b.subs (new_subscription n kind replicated _ ∷ []) h (new, tt))
 
--- behind a start nothing of memory is left
+-- after a start nothing of memory is left
 pub forgotten_subs : (G : Subscription → Type 0) (b : Broker) → ((v : Subscription) → G (cleared v)) → AllSubs G (changed b change.Forget)
 forgotten_subs G b k = each_made G cleared k b.subs
 
 -- writes and changes that touch no subscription
 abbrev pub Aside : Write → Type 0
 Aside (write.Append e) = Unit {0}
-Aside (write.SenderAck y i) = Unit {0}
+Aside (write.ReplicatorAck y i) = Unit {0}
 Aside (write.SessionNumber y n) = Unit {0}
 Aside write.Ledger = Unit {0}
 Aside w = ⊥
@@ -148,7 +148,7 @@ Aside w = ⊥
 pub aside_after : (v : Subscription) (ws : List Write) → Each Aside ws → sub_after v ws ≡ v
 aside_after v [] h = refl
 aside_after v (write.Append e ∷ ws) h = aside_after v ws h.1
-aside_after v (write.SenderAck y i ∷ ws) h = aside_after v ws h.1
+aside_after v (write.ReplicatorAck y i ∷ ws) h = aside_after v ws h.1
 aside_after v (write.SessionNumber y n ∷ ws) h = aside_after v ws h.1
 aside_after v (write.Ledger ∷ ws) h = aside_after v ws h.1
 aside_after v (w ∷ ws) h = absurd h.0
@@ -156,7 +156,7 @@ aside_after v (w ∷ ws) h = absurd h.0
 pub aside_creates : (ws : List Write) → Each Aside ws → Each CreatesNone ws
 aside_creates [] h = tt
 aside_creates (write.Append e ∷ ws) h = (tt, aside_creates ws h.1)
-aside_creates (write.SenderAck y i ∷ ws) h = (tt, aside_creates ws h.1)
+aside_creates (write.ReplicatorAck y i ∷ ws) h = (tt, aside_creates ws h.1)
 aside_creates (write.SessionNumber y n ∷ ws) h = (tt, aside_creates ws h.1)
 aside_creates (write.Ledger ∷ ws) h = (tt, aside_creates ws h.1)
 aside_creates (w ∷ ws) h = absurd h.0
@@ -256,7 +256,7 @@ pub changed_apart : (b : Broker) (c : Change) → NamesApart b.subs → NamesApa
 changed_apart b (change.Attach n k) h = apart_at b n (attached k) (λ v. refl) h
 changed_apart b (change.Detach c) h = apart_mapped (detached c) (λ v. refl) b.subs h
 changed_apart b (change.Permit n c permits) h = apart_at b n (permitted c permits) (λ v. refl) h
-changed_apart b (change.Passed n i) h = apart_at b n (passed_index i) (λ v. refl) h
+changed_apart b (change.Skipped n i) h = apart_at b n (skipped_index i) (λ v. refl) h
 changed_apart b (change.Given n i at) h = apart_at b n (given i at) (λ v. refl) h
 changed_apart b (change.Cache n c) h = apart_at b n (λ s. record s { cache = cached s.cache c }) (λ v. refl) h
 changed_apart b (change.Acked n) h = apart_at b n after_acks (λ v. refl) h

@@ -4,14 +4,14 @@ use Rattle.std.proofs.Common.{◌≡◌, ℕ, ◌<◌, ◌≤◌, true, List, []
 use Rattle.std.specs.Prelude.{Option, Some, None, ◌&&◌, ◌==◌, nat_le, slice_get, is_none}
 use Rattle.std.specs.Str.{bytes_eq}
 use Rattle.std.proofs.lemmas.Bool.{leb-true, ltb-true}
-use Rattle.world_laws.proofs.Types.{Builder, ClusterPosition, Entry, Frame, Marker, Packet, Place, Position, Progress, Targets, Write}
+use Rattle.world_laws.proofs.Types.{SnapshotBuilder, ClusterPosition, Entry, Frame, Marker, Packet, ClusterRef, Position, Progress, Targets, Write}
 use Rattle.world_laws.proofs.Types.content
 use Rattle.world_laws.proofs.Types.frame
 use Rattle.world_laws.proofs.Types.marker
 use Rattle.world_laws.proofs.Types.progress
 use Rattle.world_laws.proofs.Types.write
 use Rattle.geo_base.specs.Broker.{Broker, Site, cluster_name}
-use Rattle.geo_base.specs.Builder.{current_id, snapshot_id}
+use Rattle.geo_base.specs.SnapshotBuilder.{current_id, snapshot_id}
 use Rattle.geo_base.specs.Cursor.{mark}
 use Rattle.geo_base.specs.Entry.{is_data, with_origin}
 use Rattle.geo_base.specs.Forwarding.{closes}
@@ -53,7 +53,7 @@ NewWrite B h C w = Unit {0}
 
 -- the entry of a SEND
 abbrev pub Carries : Frame → Entry → Type 0
-Carries f e = (id : ℕ) × (seq : ℕ) × (source : Option Place) × (f ≡ frame.Send id seq source e)
+Carries f e = (id : ℕ) × (seq : ℕ) × (source : Option ClusterRef) × (f ≡ frame.Send id seq source e)
 
 -- what a broker makes its markers of: names of subscriptions, cuts that have a place for each cluster, and, where B holds, short ids
 pub record Brief (B : Type 0) (h : Site) (b : Broker) : Type 0 where
@@ -61,10 +61,10 @@ pub record Brief (B : Type 0) (h : Site) (b : Broker) : Type 0 where
   pub names : AreShort h.clusters
   pub wide : WideAt (length h.clusters) b
   pub next : B → IsSmall (next_position h.per_ledger b.ledgers)
-  pub made : B → (u : Builder) → b.builder ≡ Some u → length u.id ≤ 58
-  pub asked : B → (i : ℕ) (e : Entry) (id : List ℕ) (source : Place) → slice_get b.entries i ≡ Some e → e.content ≡ content.Marked (marker.Request id source) → length id ≤ 60
+  pub made : B → (u : SnapshotBuilder) → b.builder ≡ Some u → length u.id ≤ 58
+  pub asked : B → (i : ℕ) (e : Entry) (id : List ℕ) (source : ClusterRef) → slice_get b.entries i ≡ Some e → e.content ≡ content.Marked (marker.Request id source) → length id ≤ 60
 
-current_short : (u : Builder) → length u.id ≤ 58 → length (current_id u) ≤ 60
+current_short : (u : SnapshotBuilder) → length u.id ≤ 58 → length (current_id u) ≤ 60
 current_short u h = on_if (λ (id : List ℕ). length id ≤ 60) u.second _ _ (let l = second_short u.id in omega (arith, h, l)) (omega (arith, h))
 
 updates_new : (B : Type 0) (h : Site) (C : Entry → Type 0) (b : Broker) (v : Subscription) (ws : List Write) → Brief B h b → Named v → Cached (Wide (length h.clusters)) v → Updates h b v ws → Each (NewWrite B h C) ws
@@ -73,12 +73,12 @@ updates_new B h C b v ws f name wide (Updates.Update cut replicated passed) =
     (NewEntry.Own b _ _ _ (IsOwn.Update v.name cut name (last_wide (length h.clusters) (mark v.cursor) v.cache cut wide passed)), tt)
 
 -- what a test on a message says of its size
-sound_fits : (h : Site) (n : List ℕ) (seq : ℕ) (source : Option Place) (e : Entry) → is_sound h n seq source e ≡ true → IsFit h.clusters e
+sound_fits : (h : Site) (n : List ℕ) (seq : ℕ) (source : Option ClusterRef) (e : Entry) → is_sound h n seq source e ≡ true → IsFit h.clusters e
 sound_fits h n seq source e sound =
     leb-true (entry_size h.clusters e) most_entry_size
     (right (bytes_eq n e.ident.producer && (seq == e.ident.seq) && is_none source && is_data e.content) (nat_le (entry_size h.clusters e) most_entry_size) sound)
 
-stored_fits : (h : Site) (x id seq : ℕ) (source : Option Place) (e : Entry) (f : Frame) → f ≡ frame.Send id seq source e → may_store h x f ≡ true → IsFit h.clusters e
+stored_fits : (h : Site) (x id seq : ℕ) (source : Option ClusterRef) (e : Entry) (f : Frame) → f ≡ frame.Send id seq source e → may_store h x f ≡ true → IsFit h.clusters e
 stored_fits h x id seq source e f is may =
     leb-true (entry_size h.clusters e) most_entry_size
     (right (is_from x source) (nat_le (entry_size h.clusters e) most_entry_size) (subst (λ (g : Frame). may_store h x g ≡ true) is may))
@@ -108,7 +108,7 @@ taken_new B h b x p q lt (Taken.Discards other shut) = tt
 taken_new B h b x p q lt (Taken.Refuses other at may) = tt
 taken_new B h b x p q lt (Taken.Repeats id seq source e is at may old) = tt
 
-pub answered_new : (F : Write → Type 0) → ((z i : ℕ) → F (write.SenderAck z i)) → (b : Broker) (y : ℕ) (p : Packet) (q : Plan) → Answered b y p q → Each F q.writes
+pub answered_new : (F : Write → Type 0) → ((z i : ℕ) → F (write.ReplicatorAck z i)) → (b : Broker) (y : ℕ) (p : Packet) (q : Plan) → Answered b y p q → Each F q.writes
 answered_new F acks b y p q (Answered.Stale other) = tt
 answered_new F acks b y p q (Answered.Other at other) = tt
 answered_new F acks b y p q (Answered.Opened request name at is state) = tt
@@ -124,10 +124,10 @@ fated_new F per b Acts lost q acts none Fated.Lost = none
 fated_new F per b Acts lost q acts none (Fated.Twice r r' t t') = each_both F r.writes r'.writes (acts b r t) (acts _ r' t')
 
 -- the id of a builder that goes on
-goes_on_short : (b : Broker) (y i : ℕ) (id : List ℕ) (answer : ClusterPosition) (u : Builder) (g : Progress) (u' : Builder) → Hears b y i id answer u g u' → length u.id ≤ 58 → length u'.id ≤ 58
+goes_on_short : (b : Broker) (y i : ℕ) (id : List ℕ) (answer : ClusterPosition) (u : SnapshotBuilder) (g : Progress) (u' : SnapshotBuilder) → Hears b y i id answer u g u' → length u.id ≤ 58 → length u'.id ≤ 58
 goes_on_short b y i id answer u g u' heard h = subst (λ (id : List ℕ). length id ≤ 58) (sym (hears_same b y i id answer u g u' heard).id) h
 
-goes_on_wide : (B : Type 0) (h : Site) (b : Broker) (y i : ℕ) (id : List ℕ) (answer : ClusterPosition) (u : Builder) (g : Progress) (u' : Builder) → Brief B h b → b.builder ≡ Some u
+goes_on_wide : (B : Type 0) (h : Site) (b : Broker) (y i : ℕ) (id : List ℕ) (answer : ClusterPosition) (u : SnapshotBuilder) (g : Progress) (u' : SnapshotBuilder) → Brief B h b → b.builder ≡ Some u
     → Hears b y i id answer u g u' → length u'.cut.remote ≡ length h.clusters
 goes_on_wide B h b y i id answer u g u' f is heard = (hears_same b y i id answer u g u' heard).places ∙ f.wide.builder u is
 
@@ -146,10 +146,10 @@ reads_new B h C b y q lt f (Reads.Completes i e id answer u u' next is heard) = 
   (tt, tt),
 )
 reads_new B h C b y q lt f (Reads.CreatesAt i j e n remote next is named) = (tt, (tt, (tt, tt)))
-reads_new B h C b y q lt f (Reads.PassesOver i j e n remote v ws next is named after) =
+reads_new B h C b y q lt f (Reads.ActsOnUpdate i j e n remote v ws next is named after) =
     let F = NewWrite B h C in (
       tt,
-      each_both F ws (write.SenderAck y i ∷ [])
+      each_both F ws (write.ReplicatorAck y i ∷ [])
           (updates_new B h C b _ ws f (found_is Named _ b.subs v named f.wide.names).0 (found_cached (Wide (length h.clusters)) _ b.subs v named f.wide.caches) after) (tt, tt),
     )
 
@@ -162,7 +162,7 @@ snaps_new B h C b q f (Snaps.Asks any none) =
 pub offers_new : (B : Type 0) (h : Site) (C : Entry → Type 0) (b : Broker) (n : List ℕ) (q : Plan) → Brief B h b → Offers h b n q → Each (NewWrite B h C) q.writes
 offers_new B h C b n q f Offers.NothingToOffer = tt
 offers_new B h C b n q f (Offers.Gives v i at e due is picked) = tt
-offers_new B h C b n q f (Offers.PassesBy v i e ws due is after) =
+offers_new B h C b n q f (Offers.SkipsMarker v i e ws due is after) =
     (tt, updates_new B h C b _ ws f (found_is Named _ b.subs v due.0 f.wide.names).0 (found_cached (Wide (length h.clusters)) _ b.subs v due.0 f.wide.caches) after)
 offers_new B h C b n q f (Offers.Caches v i j e c ws due is after) =
     let W = Wide (length h.clusters) in (
@@ -226,6 +226,6 @@ all_appended B h C E f (write.Alter n kind replicated ∷ ws) k = all_appended B
 all_appended B h C E f (write.Delete n ∷ ws) k = all_appended B h C E f ws k.1
 all_appended B h C E f (write.Acks n is ∷ ws) k = all_appended B h C E f ws k.1
 all_appended B h C E f (write.Seek n i ∷ ws) k = all_appended B h C E f ws k.1
-all_appended B h C E f (write.SenderAck y i ∷ ws) k = all_appended B h C E f ws k.1
+all_appended B h C E f (write.ReplicatorAck y i ∷ ws) k = all_appended B h C E f ws k.1
 all_appended B h C E f (write.SessionNumber y n ∷ ws) k = all_appended B h C E f ws k.1
 all_appended B h C E f (write.Ledger ∷ ws) k = all_appended B h C E f ws k.1

@@ -5,7 +5,7 @@ use Rattle.std.proofs.lemmas.Nat.{div-mul-add, pow_below, pow_pos}
 use Rattle.world_laws.proofs.Types.{Cut, Marker, Position, Targets}
 use Rattle.world_laws.proofs.Types.targets
 use Rattle.geo_base.specs.Broker.{Broker, Site}
-use Rattle.geo_base.specs.Builder.{named, named_from}
+use Rattle.geo_base.specs.SnapshotBuilder.{named, named_from}
 use Rattle.geo_base.specs.Client.{target_names}
 use Rattle.geo_base.specs.Entry.{goes_to}
 use Rattle.geo_base.specs.Scripted.{names_some}

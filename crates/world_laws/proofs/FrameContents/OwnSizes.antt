@@ -1,18 +1,19 @@
 -- How large an own marker is: its id and its names are short, and it names no more places than there are clusters.
-use Rattle.std.proofs.Common.{◌≡◌, ℕ, zero, suc, ◌+◌, ◌*◌, ◌/◌, ◌^◌, ◌<◌, ◌≤◌, Bool, true, List, [], ◌∷◌, length, arith, inl, inr, lt-ltb, le-ltb}
-use Rattle.std.specs.Prelude.{Option, Some, None, nat_lt, nat_le, ◌&&◌, slice_index_or}
+use Rattle.std.proofs.Common.{◌≡◌, ℕ, zero, suc, ◌+◌, ◌*◌, ◌/◌, ◌^◌, ◌<◌, ◌≤◌, true, List, [], ◌∷◌, length, arith, inl, inr, lt-ltb, le-ltb}
+use Rattle.std.specs.Prelude.{Option, Some, None, nat_lt, nat_le, slice_index_or}
 use Rattle.std.specs.List.{list_all}
 use Rattle.std.proofs.lemmas.Bool.{cases_lt, leb-true}
 use Rattle.world_laws.proofs.Types.{Cut, Marker, Position, Targets}
 use Rattle.world_laws.proofs.Types.marker
-use Rattle.world_laws.proofs.Types.place
+use Rattle.world_laws.proofs.Types.cluster_ref
 use Rattle.world_laws.proofs.Types.targets
 use Rattle.geo_base.specs.Broker.{Broker, Site, cluster_name}
-use Rattle.geo_base.specs.Builder.{named, named_from}
+use Rattle.geo_base.specs.SnapshotBuilder.{named, named_from}
 use Rattle.geo_base.specs.Name.{is_name, most_name_bytes, name_byte}
 use Rattle.geo_base.specs.Sizes.{bytes_field, cluster_position_size, cluster_positions, entry_size, marker_size, marker_type, most_entry_size, number_field, position_size, repeated_text, varint_groups, varint_size}
 use Rattle.geo_base.specs.Storing.{own_marker}
 use Rattle.world_laws.proofs.Walks.Walk.{left, right}
+pub use Rattle.geo_base.proofs.Bools.{and_middle as middle}
 
 groups_most : (k n : ℕ) → varint_groups k n ≤ k + 1
 groups_most zero n = omega arith
@@ -34,9 +35,6 @@ bytes_most f n = omega (arith, varint_most (f * 8), varint_most n)
 pub place_most : (p : Position) → position_size p ≤ 40
 place_most p = omega (arith, number_most 1 p.ledger, number_most 2 p.entry)
 
-pub middle : (a b c : Bool) → (a && b && c) ≡ true → b ≡ true
-middle a b c h = grind (arith, h)
-
 -- a name has at most 16 bytes, and so has each of a list
 pub name_most : (n : List ℕ) → is_name n ≡ true → length n ≤ 16
 name_most n h = leb-true (length n) most_name_bytes (middle (nat_lt 0 (length n)) (nat_le (length n) most_name_bytes) (list_all name_byte n) h)
@@ -50,9 +48,9 @@ names_short (n ∷ ns) h zero = name_most n (left (is_name n) (list_all is_name 
 names_short (n ∷ ns) h (suc x) = names_short ns (right (is_name n) (list_all is_name ns) h) x
 
 -- a cluster and its position
-one_most : (names : List (List ℕ)) (f x : ℕ) (p : Position) → AreShort names → bytes_field f (cluster_position_size names (record { cluster = place.Known x; position = p })) ≤ 136
+one_most : (names : List (List ℕ)) (f x : ℕ) (p : Position) → AreShort names → bytes_field f (cluster_position_size names (record { cluster = cluster_ref.Known x; position = p })) ≤ 136
 one_most names f x p short =
-    let size = cluster_position_size names (record { cluster = place.Known x; position = p }) in
+    let size = cluster_position_size names (record { cluster = cluster_ref.Known x; position = p }) in
     let within : size ≤ 116 = omega (arith, bytes_most 1 (length (slice_index_or names x [])), bytes_most 2 (position_size p), place_most p, short x) in
     omega (arith, bytes_most f size, within)
 
@@ -63,9 +61,9 @@ named_most names f c (Some p ∷ ps) short = omega (arith, one_most names f c p 
 
 -- What a cluster says in a marker of its own: to whom, and what it names. An id is short where B holds
 pub data IsOwn (B : Type 0) (h : Site) : Marker → Targets → List (List ℕ) → Type 0 where
-  Request : (id : List ℕ) → (B → length id ≤ 60) → IsOwn B h (marker.Request id (place.Known h.own)) targets.All []
+  Request : (id : List ℕ) → (B → length id ≤ 60) → IsOwn B h (marker.Request id (cluster_ref.Known h.own)) targets.All []
   Response : (id : List ℕ) (y : ℕ) (p : Position) → (B → length id ≤ 60) → y < length h.clusters
-      → IsOwn B h (marker.Response id (record { cluster = place.Known h.own; position = p })) (targets.Only (2 ^ y)) (cluster_name h y ∷ [])
+      → IsOwn B h (marker.Response id (record { cluster = cluster_ref.Known h.own; position = p })) (targets.Only (2 ^ y)) (cluster_name h y ∷ [])
   Snapshot : (id : List ℕ) (cut : Cut) → (B → length id ≤ 60) → length cut.remote ≡ length h.clusters
       → IsOwn B h (marker.Snapshot id cut.local (named cut)) (targets.Only (2 ^ h.own)) (cluster_name h h.own ∷ [])
   Update : (n : List ℕ) (cut : Cut) → is_name n ≡ true → length cut.remote ≡ length h.clusters → IsOwn B h (marker.Update n (named cut)) targets.All []

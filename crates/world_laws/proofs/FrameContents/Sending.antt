@@ -3,9 +3,9 @@ use Rattle.std.proofs.Common.{◌≡◌, ℕ, ◌<◌, ◌≤◌, List, [], leng
 use Rattle.std.specs.Prelude.{Option, Some, None, slice_get, codes}
 use Rattle.std.proofs.lemmas.Bool.{leb-true}
 use Rattle.std.proofs.lemmas.List.{length-append}
-use Rattle.world_laws.proofs.Types.{Entry, Frame, Out, Packet, Place, Position}
+use Rattle.world_laws.proofs.Types.{Entry, Frame, Out, Packet, ClusterRef, Position}
 use Rattle.world_laws.proofs.Types.frame
-use Rattle.world_laws.proofs.Types.place
+use Rattle.world_laws.proofs.Types.cluster_ref
 use Rattle.geo_base.specs.Broker.{Broker, Site, cluster_name}
 use Rattle.geo_base.specs.Forwarding.{closes, link_producer}
 use Rattle.geo_base.specs.Offering.{source_of}
@@ -14,7 +14,7 @@ use Rattle.geo_base.specs.Planned.{Planned}
 use Rattle.geo_base.specs.Producing.{most_producer_name}
 use Rattle.geo_base.specs.Seeking.{restart}
 use Rattle.geo_base.specs.Setup.{Setup}
-use Rattle.geo_base.specs.Sizes.{place_name}
+use Rattle.geo_base.specs.Sizes.{cluster_ref_name}
 use Rattle.geo_base.specs.Topic.{position_at}
 use Rattle.geo_base.specs.World.{World, site, topic_at}
 use Rattle.world_laws.specs.Frames.{IsCarrying}
@@ -42,7 +42,7 @@ pub record Stock (B : Type 0) (E : Entry → Type 0) (h : Site) (b : Broker) : T
   pub topic : length h.topic ≤ 16
   pub own : h.own < length h.clusters
 
-short_source : (names : List (List ℕ)) (x : ℕ) → AreShort names → length (place_name names (place.Known x)) ≤ 1024
+short_source : (names : List (List ℕ)) (x : ℕ) → AreShort names → length (cluster_ref_name names (cluster_ref.Known x)) ≤ 1024
 short_source names x short = let s = short x in omega (arith, s)
 
 link_name_short : (h : Site) (x : ℕ) → AreShort h.clusters → length (link_producer h x) ≤ 1024
@@ -111,13 +111,13 @@ reads_sends B E h b y q k (Reads.Counts i e id answer u u' next is heard) = tt
 reads_sends B E h b y q k (Reads.AsksAgain i e id answer u u' next is heard) = tt
 reads_sends B E h b y q k (Reads.Completes i e id answer u u' next is heard) = tt
 reads_sends B E h b y q k (Reads.CreatesAt i j e n remote next is named) = tt
-reads_sends B E h b y q k (Reads.PassesOver i j e n remote v ws next is named after) = tt
+reads_sends B E h b y q k (Reads.ActsOnUpdate i j e n remote v ws next is named after) = tt
 
 -- a message names the cluster that stored it first, where that is another one
 message_sent : (B : Type 0) (E : Entry → Type 0) (h : Site) (b : Broker) (i : ℕ) (e : Entry) (id : ℕ) (p : Position) → Stock B E h b → slice_get b.entries i ≡ Some e
     → Sent B E h.clusters (frame.Message id p (source_of h.own e) e)
 message_sent B E h b i e id p k at =
-    on_test (λ (o : Option Place). Sent B E h.clusters (frame.Message id p o e)) (e.ident.origin == h.own) None (Some (place.Known e.ident.origin))
+    on_test (λ (o : Option ClusterRef). Sent B E h.clusters (frame.Message id p o e)) (e.ident.origin == h.own) None (Some (cluster_ref.Known e.ident.origin))
     (λ own. record { carried = (tt, k.has i e at); small = λ b. record { entry = k.fit b i e at; from = tt } })
     (λ other. record {
       carried = (k.origins i e at, k.has i e at);
@@ -127,7 +127,7 @@ message_sent B E h b i e id p k at =
 pub offers_sends : (B : Type 0) (E : Entry → Type 0) (h : Site) (b : Broker) (n : List ℕ) (q : Plan) → Stock B E h b → Offers h b n q → Each (SentOut B E h.clusters) q.sent
 offers_sends B E h b n q k Offers.NothingToOffer = tt
 offers_sends B E h b n q k (Offers.Gives v i at e due is picked) = (message_sent B E h b i e _ (position_at b.ledgers i) k due.2, tt)
-offers_sends B E h b n q k (Offers.PassesBy v i e ws due is after) = tt
+offers_sends B E h b n q k (Offers.SkipsMarker v i e ws due is after) = tt
 offers_sends B E h b n q k (Offers.Caches v i j e c ws due is after) = tt
 
 pub snaps_sends : (F : Out → Type 0) (h : Site) (b : Broker) (q : Plan) → Snaps h b q → Each F q.sent

@@ -1,10 +1,10 @@
 -- Small frames are within the limit on frames.
 use Rattle.std.proofs.Common.{◌≡◌, ℕ, ◌+◌, ◌*◌, ◌<◌, ◌≤◌, List, [], ◌∷◌, length, refl, arith, lt-ltb}
 use Rattle.std.specs.Prelude.{Option, Some, None, IfSome}
-use Rattle.world_laws.proofs.Types.{Entry, Frame, Place, Position}
+use Rattle.world_laws.proofs.Types.{Entry, Frame, ClusterRef, Position}
 use Rattle.world_laws.proofs.Types.frame
 use Rattle.geo_base.specs.FrameSizes.{body_size, frame_size, framed, most_frame_size, repeated_position, source_size}
-use Rattle.geo_base.specs.Sizes.{bytes_field, number_field, optional_text, place_name, position_size, tag_size, text_field, varint_size}
+use Rattle.geo_base.specs.Sizes.{bytes_field, number_field, optional_text, cluster_ref_name, position_size, tag_size, text_field, varint_size}
 use Rattle.world_laws.specs.Small.{IsShortText, IsSmallEntry, IsSmallFrame}
 use Rattle.world_laws.proofs.FrameContents.OwnSizes.{bytes_most, number_most, varint_most}
 
@@ -34,11 +34,11 @@ ids_most : (ps : List Position) → repeated_position 3 ps ≤ 24 * length ps
 ids_most [] = omega arith
 ids_most (p ∷ ps) = omega (arith, id_most p, ids_most ps)
 
-source_most : (names : List (List ℕ)) (o : Option Place) → IfSome o (λ p. IsShortText (place_name names p)) → source_size names o ≤ 1044
+source_most : (names : List (List ℕ)) (o : Option ClusterRef) → IfSome o (λ p. IsShortText (cluster_ref_name names p)) → source_size names o ≤ 1044
 source_most names None h = omega arith
-source_most names (Some p) h = omega (arith, bytes_most 5 (length (place_name names p)), h)
+source_most names (Some p) h = omega (arith, bytes_most 5 (length (cluster_ref_name names p)), h)
 
-carried_most : (names : List (List ℕ)) (source : Option Place) (e : Entry) → IsSmallEntry names source e → body_size names source e ≤ 5243928
+carried_most : (names : List (List ℕ)) (source : Option ClusterRef) (e : Entry) → IsSmallEntry names source e → body_size names source e ≤ 5243928
 carried_most names source e h = omega (arith, h.entry, source_most names source h.from)
 
 pub fits : (names : List (List ℕ)) (f : Frame) → IsSmallFrame names f → frame_size names f ≤ 4 + most_frame_size

@@ -5,16 +5,16 @@ use Rattle.std.specs.Prelude.{Option, Some, None, ◌||◌, ◌==◌, nat_lt, no
 use Rattle.std.specs.Str.{bytes_eq}
 use Rattle.std.proofs.lemmas.List.{get_or-replicate, length-replicate, length-set}
 use Rattle.std.proofs.lemmas.Option.{none-some, same_Some}
-use Rattle.world_laws.proofs.Types.{Builder, CachedSnapshot, Change, ClusterPosition, Cut, Entry, Packet, Place, Position, Progress, Write}
+use Rattle.world_laws.proofs.Types.{SnapshotBuilder, CachedSnapshot, Change, ClusterPosition, Cut, Entry, Packet, ClusterRef, Position, Progress, Write}
 use Rattle.world_laws.proofs.Types.change
-use Rattle.world_laws.proofs.Types.place
+use Rattle.world_laws.proofs.Types.cluster_ref
 use Rattle.world_laws.proofs.Types.progress
 use Rattle.world_laws.proofs.Types.write
 use Rattle.geo_base.specs.Broker.{Broker, Site, changed, new_broker, no_broker, written}
-use Rattle.geo_base.specs.Builder.{Heard, counts, judged, on_response, with_response}
+use Rattle.geo_base.specs.SnapshotBuilder.{Heard, counts, judged, on_response, with_response}
 use Rattle.geo_base.specs.Cache.{any_passed, cached, last_passed, with_place, with_places}
 use Rattle.geo_base.specs.Client.{Acted}
-use Rattle.geo_base.specs.Dispatcher.{given, passed_index}
+use Rattle.geo_base.specs.Dispatcher.{given, skipped_index}
 use Rattle.geo_base.specs.Forwarding.{closes}
 use Rattle.geo_base.specs.Happening.{broker_does, broker_halts, client_does, stops}
 use Rattle.geo_base.specs.Name.{is_name}
@@ -47,19 +47,19 @@ abbrev pub Wide : ℕ → CachedSnapshot → Type 0
 Wide n c = length c.cut.remote ≡ n
 
 -- a response changes neither a builder's id nor its places
-pub record SameSnapshot (u v : Builder) : Type 0 where
+pub record SameSnapshot (u v : SnapshotBuilder) : Type 0 where
   pub id : v.id ≡ u.id
   pub places : length v.cut.remote ≡ length u.cut.remote
 
-abbrev HeardSame : Builder → Heard → Type 0
+abbrev HeardSame : SnapshotBuilder → Heard → Type 0
 HeardSame u r = SameSnapshot u r.builder
 
-judged_same : (u v : Builder) → SameSnapshot u v → HeardSame u (judged v)
+judged_same : (u v : SnapshotBuilder) → SameSnapshot u v → HeardSame u (judged v)
 judged_same u v h =
     on_if (HeardSame u) (nat_lt (length v.heard + 1) v.clusters) _ _ h
     (on_if (HeardSame u) (v.second || (v.clusters == 2)) _ _ (record { id = h.id; places = h.places }) (record { id = h.id; places = h.places }))
 
-heard_same : (u : Builder) (id : List ℕ) (c : ℕ) (remote local : Position) → HeardSame u (on_response u id c remote local)
+heard_same : (u : SnapshotBuilder) (id : List ℕ) (c : ℕ) (remote local : Position) → HeardSame u (on_response u id c remote local)
 heard_same u id c remote local =
     on_if (HeardSame u) (counts u id c) _ _
     (judged_same u (with_response u c remote local) (record {
@@ -67,13 +67,13 @@ heard_same u id c remote local =
       places = on_if (λ (ps : List (Option Position)). length ps ≡ length u.cut.remote) u.second _ _ refl (length-set u.cut.remote c (Some remote));
     })) (record { id = refl; places = refl })
 
-pub hears_same : (b : Broker) (y i : ℕ) (id : List ℕ) (answer : ClusterPosition) (u : Builder) (g : Progress) (u' : Builder) → Hears b y i id answer u g u' → SameSnapshot u u'
+pub hears_same : (b : Broker) (y i : ℕ) (id : List ℕ) (answer : ClusterPosition) (u : SnapshotBuilder) (g : Progress) (u' : SnapshotBuilder) → Hears b y i id answer u g u' → SameSnapshot u u'
 hears_same b y i id answer u g u' is = subst (HeardSame u) is (heard_same u id y answer.position _)
 
 -- a cut that a marker stands for has a place for each cluster
-one_place : (own : ℕ) (p : Place) (q : Position) (ps : List (Option Position)) → length (with_place own p q ps) ≡ length ps
-one_place own (place.Known x) q ps = on_if (λ (l : List (Option Position)). length l ≡ length ps) (x == own) _ _ refl (length-set ps x (Some q))
-one_place own (place.Stranger n) q ps = refl
+one_place : (own : ℕ) (p : ClusterRef) (q : Position) (ps : List (Option Position)) → length (with_place own p q ps) ≡ length ps
+one_place own (cluster_ref.Known x) q ps = on_if (λ (l : List (Option Position)). length l ≡ length ps) (x == own) _ _ refl (length-set ps x (Some q))
+one_place own (cluster_ref.Stranger n) q ps = refl
 
 all_places : (own : ℕ) (ps : List (Option Position)) (rs : List ClusterPosition) → length (with_places own ps rs) ≡ length ps
 all_places own ps [] = refl
@@ -113,14 +113,14 @@ GoodName (write.Create n kind replicated latest) = is_name n ≡ true
 GoodName w = Unit {0}
 
 abbrev pub WideChange : ℕ → Change → Type 0
-WideChange n (change.Building o) = (u : Builder) → o ≡ Some u → length u.cut.remote ≡ n
+WideChange n (change.Building o) = (u : SnapshotBuilder) → o ≡ Some u → length u.cut.remote ≡ n
 WideChange n (change.Cache name c) = Wide n c
 WideChange n c = Unit {0}
 
 pub record WideAt (n : ℕ) (b : Broker) : Type 0 where
   pub names : AllSubs Named b
   pub caches : AllCached (Wide n) b.subs
-  pub builder : (u : Builder) → b.builder ≡ Some u → length u.cut.remote ≡ n
+  pub builder : (u : SnapshotBuilder) → b.builder ≡ Some u → length u.cut.remote ≡ n
 
 kept_name : (f : Subscription → Subscription) (v : Subscription) → (f v).name ≡ v.name → Named v → Named (f v)
 kept_name f v same h = ap is_name same ∙ h
@@ -143,7 +143,7 @@ all_named per b (w ∷ ws) good h = all_named per (written per b w) ws good.1 (w
 changed_name : (v : Subscription) (c : Change) → (sub_changed v c).name ≡ v.name
 changed_name v (change.Attach n k) = named_same n (attached k) (λ v. refl) v
 changed_name v (change.Permit n c permits) = named_same n (permitted c permits) (λ v. refl) v
-changed_name v (change.Passed n i) = named_same n (passed_index i) (λ v. refl) v
+changed_name v (change.Skipped n i) = named_same n (skipped_index i) (λ v. refl) v
 changed_name v (change.Given n i at) = named_same n (given i at) (λ v. refl) v
 changed_name v (change.Cache n c) = named_same n (λ s. record s { cache = cached s.cache c }) (λ v. refl) v
 changed_name v (change.Acked n) = named_same n after_acks (λ v. refl) v
@@ -160,8 +160,8 @@ brings : (n : ℕ) (c : Change) → WideChange n c → Brings (Wide n) c
 brings n (change.Cache name c) h = h
 brings n c h = tt
 
-builds : (n : ℕ) (o : Option Builder) (cs : List Change) → ((u : Builder) → o ≡ Some u → length u.cut.remote ≡ n) → Each (WideChange n) cs
-    → (u : Builder) → builder_then o cs ≡ Some u → length u.cut.remote ≡ n
+builds : (n : ℕ) (o : Option SnapshotBuilder) (cs : List Change) → ((u : SnapshotBuilder) → o ≡ Some u → length u.cut.remote ≡ n) → Each (WideChange n) cs
+    → (u : SnapshotBuilder) → builder_then o cs ≡ Some u → length u.cut.remote ≡ n
 builds n o [] h k u is = h u is
 builds n o (change.Building v ∷ cs) h k u is = builds n v cs k.0 k.1 u is
 builds n o (change.Forget ∷ cs) h k u is = builds n None cs (λ v e. absurd (none-some v e)) k.1 u is
@@ -238,10 +238,10 @@ fated_wide n per b Acts lost q acts none (Fated.Twice r r' t t') =
     record { names = each_both GoodName r.writes r'.writes f.names g.names; changes = each_both (WideChange n) r.changes r'.changes f.changes g.changes }
 
 -- a builder that goes on is as wide as before
-goes_on : (n : ℕ) (b : Broker) (y i : ℕ) (id : List ℕ) (answer : ClusterPosition) (u : Builder) (g : Progress) (u' : Builder) → WideAt n b → b.builder ≡ Some u
-    → Hears b y i id answer u g u' → (v : Builder) → Some u' ≡ Some v → length v.cut.remote ≡ n
+goes_on : (n : ℕ) (b : Broker) (y i : ℕ) (id : List ℕ) (answer : ClusterPosition) (u : SnapshotBuilder) (g : Progress) (u' : SnapshotBuilder) → WideAt n b → b.builder ≡ Some u
+    → Hears b y i id answer u g u' → (v : SnapshotBuilder) → Some u' ≡ Some v → length v.cut.remote ≡ n
 goes_on n b y i id answer u g u' h is heard v same =
-    ap (λ (k : Builder). length k.cut.remote) (sym (same_Some u' v same)) ∙ (hears_same b y i id answer u g u' heard).places ∙ h.builder u is
+    ap (λ (k : SnapshotBuilder). length k.cut.remote) (sym (same_Some u' v same)) ∙ (hears_same b y i id answer u g u' heard).places ∙ h.builder u is
 
 pub reads_wide : (h : Site) (b : Broker) (y : ℕ) (q : Plan) → WideAt (length h.clusters) b → Reads h b y q → WidePlan (length h.clusters) q
 reads_wide h b y q w Reads.NothingToRead = record { names = tt; changes = tt }
@@ -254,19 +254,19 @@ reads_wide h b y q w (Reads.AsksAgain i e id answer u u' next is heard) =
     record { names = (tt, (tt, tt)); changes = (goes_on (length h.clusters) b y i id answer u progress.SecondRound u' w is.2 heard, (tt, tt)) }
 reads_wide h b y q w (Reads.Completes i e id answer u u' next is heard) = record { names = (tt, (tt, tt)); changes = ((λ v e. absurd (none-some v e)), (tt, tt)) }
 reads_wide h b y q w (Reads.CreatesAt i j e n remote next is named) = record { names = (left (is_name n) (has_room b n) is.3, (tt, (tt, tt))); changes = (tt, (tt, tt)) }
-reads_wide h b y q w (Reads.PassesOver i j e n remote v ws next is named after) =
-    record { names = (tt, each_both GoodName ws (write.SenderAck y i ∷ []) (after_good h b _ ws after) (tt, tt)); changes = (tt, (tt, tt)) }
+reads_wide h b y q w (Reads.ActsOnUpdate i j e n remote v ws next is named after) =
+    record { names = (tt, each_both GoodName ws (write.ReplicatorAck y i ∷ []) (after_good h b _ ws after) (tt, tt)); changes = (tt, (tt, tt)) }
 
 pub snaps_wide : (h : Site) (b : Broker) (q : Plan) → Snaps h b q → WidePlan (length h.clusters) q
 snaps_wide h b q Snaps.NothingToAsk = record { names = tt; changes = tt }
 snaps_wide h b q (Snaps.Asks any none) =
     let n = length h.clusters in
-    record { names = (tt, tt); changes = ((λ u is. ap (λ (k : Builder). length k.cut.remote) (sym (same_Some _ u is)) ∙ length-replicate n None), tt) }
+    record { names = (tt, tt); changes = ((λ u is. ap (λ (k : SnapshotBuilder). length k.cut.remote) (sym (same_Some _ u is)) ∙ length-replicate n None), tt) }
 
 pub offers_wide : (h : Site) (b : Broker) (n : List ℕ) (q : Plan) → Offers h b n q → WidePlan (length h.clusters) q
 offers_wide h b n q Offers.NothingToOffer = record { names = tt; changes = tt }
 offers_wide h b n q (Offers.Gives v i at e due is picked) = record { names = tt; changes = (tt, tt) }
-offers_wide h b n q (Offers.PassesBy v i e ws due is after) = record { names = (tt, after_good h b _ ws after); changes = (tt, (tt, tt)) }
+offers_wide h b n q (Offers.SkipsMarker v i e ws due is after) = record { names = (tt, after_good h b _ ws after); changes = (tt, (tt, tt)) }
 offers_wide h b n q (Offers.Caches v i j e c ws due is after) =
     record { names = (tt, after_good h b _ ws after); changes = (snapshot_wide h b v e j c is, (tt, (tt, tt))) }
 

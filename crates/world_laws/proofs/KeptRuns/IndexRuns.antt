@@ -4,20 +4,20 @@ use Rattle.std.specs.Prelude.{Option, slice_index_or}
 use Rattle.std.specs.List.{AllByRecursion, sum}
 use Rattle.std.proofs.lemmas.List.Sums.{sum_by-cons}
 use Rattle.world_laws.proofs.Types.{Pending}
-use Rattle.geo_base.specs.Broker.{Broker, new_broker, no_broker, sender_at}
+use Rattle.geo_base.specs.Broker.{Broker, new_broker, no_broker, replicator_at}
 use Rattle.geo_base.specs.Client.{Acted}
 use Rattle.geo_base.specs.Happening.{broker_does, broker_halts, client_does, stops}
 use Rattle.geo_base.specs.Plan.{done, halted}
 use Rattle.geo_base.specs.Planned.{Planned}
 use Rattle.geo_base.specs.Seeking.{restart}
-use Rattle.geo_base.specs.Sender.{new_sender}
+use Rattle.geo_base.specs.Replicator.{new_replicator}
 use Rattle.geo_base.specs.Setup.{Setup}
 use Rattle.geo_base.specs.Subscription.{Subscription}
 use Rattle.geo_base.specs.World.{LinkName, World, broker_at, node, opening_world}
 use Rattle.world_laws.specs.Indexes.{AllHaveIndexes, HasIndexes}
 use Rattle.world_laws.proofs.Replicating.Effects.{Each}
 use Rattle.world_laws.proofs.Induction.Frames.{at_copies, at_set}
-use Rattle.world_laws.proofs.KeptRuns.KeptIndexes.{PendingBelow, SenderBelow, Stocked, SubBelow, done_stocked, halted_stocked, new_stocked, restart_stored, shape_stored}
+use Rattle.world_laws.proofs.KeptRuns.KeptIndexes.{PendingBelow, ReplicatorBelow, Stocked, SubBelow, done_stocked, halted_stocked, new_stocked, restart_stored, shape_stored}
 use Rattle.world_laws.proofs.TopicOrder.Ledgers.{total}
 use Rattle.world_laws.proofs.Induction.Runs.{IsKept, IsKeptOn, by_events, kept_on}
 use Rattle.world_laws.proofs.Walks.Shapes.{Shape}
@@ -27,13 +27,13 @@ abbrev AllStocked : World → Type 0
 AllStocked w = (z : ℕ) → Stocked (broker_at w z)
 
 none_stocked : Stocked no_broker
-none_stocked = record { ledgers = omega arith; subs = tt; senders = λ y. new_stocked 0 }
+none_stocked = record { ledgers = omega arith; subs = tt; replicators = λ y. new_stocked 0 }
 
-new_senders : (n y : ℕ) → SenderBelow 0 (slice_index_or (replicate n new_sender) y new_sender)
-new_senders n y = at_copies (SenderBelow 0) n y new_sender new_sender (new_stocked 0) (new_stocked 0)
+new_replicators : (n y : ℕ) → ReplicatorBelow 0 (slice_index_or (replicate n new_replicator) y new_replicator)
+new_replicators n y = at_copies (ReplicatorBelow 0) n y new_replicator new_replicator (new_stocked 0) (new_stocked 0)
 
 opened_stocked : (clusters clients : ℕ) → Stocked (new_broker clusters clients)
-opened_stocked clusters clients = record { ledgers = omega arith; subs = tt; senders = λ y. new_senders clusters y }
+opened_stocked clusters clients = record { ledgers = omega arith; subs = tt; replicators = λ y. new_replicators clusters y }
 
 opening_stocked : (s : Setup) → AllStocked (opening_world s)
 opening_stocked s z =
@@ -106,14 +106,14 @@ told : (b : Broker) → Stocked b → HasIndexes b
 told b h = let n = length b.entries in record {
   ledgers = omega (arith, h.ledgers, sum_total b.ledgers);
   subs = told_subs n b.subs h.subs;
-  senders = λ y. record { acked = (h.senders y).acked; pending = told_pending n (sender_at b y).pending (h.senders y).pending };
+  replicators = λ y. record { acked = (h.replicators y).acked; pending = told_pending n (replicator_at b y).pending (h.replicators y).pending };
 }
 
 known : (b : Broker) → HasIndexes b → Stocked b
 known b h = let n = length b.entries in record {
   ledgers = omega (arith, h.ledgers, sum_total b.ledgers);
   subs = known_subs n b.subs h.subs;
-  senders = λ y. record { acked = (h.senders y).acked; pending = known_pending n (sender_at b y).pending (h.senders y).pending };
+  replicators = λ y. record { acked = (h.replicators y).acked; pending = known_pending n (replicator_at b y).pending (h.replicators y).pending };
 }
 
 pub opening_indexes : (s : Setup) → AllHaveIndexes (opening_world s)

@@ -9,23 +9,23 @@ use Rattle.std.proofs.lemmas.Option.{none-some, same_Some}
 use Rattle.world_laws.proofs.Types.{AckKind, Change, Entry, Packet, Pending, Position, SubKind, Write}
 use Rattle.world_laws.proofs.Types.ack_kind
 use Rattle.world_laws.proofs.Types.change
-use Rattle.world_laws.proofs.Types.sender_state
+use Rattle.world_laws.proofs.Types.replicator_state
 use Rattle.world_laws.proofs.Types.write
 use Rattle.geo_base.specs.Acknowledging.{acked_indexes, allows_cumulative, cumulative_indexes, stored_indexes, up_to, with_stored}
-use Rattle.geo_base.specs.Broker.{Broker, Site, at_sender, at_sub, changed, sender_at, sub_named, written}
+use Rattle.geo_base.specs.Broker.{Broker, Site, at_replicator, at_sub, changed, replicator_at, sub_named, written}
 use Rattle.geo_base.specs.Cache.{cached}
 use Rattle.geo_base.specs.Cursor.{below, has, with_index, with_indexes}
-use Rattle.geo_base.specs.Dispatcher.{given, passed_index}
+use Rattle.geo_base.specs.Dispatcher.{given, skipped_index}
 use Rattle.geo_base.specs.Forwarding.{closes}
 use Rattle.geo_base.specs.Plan.{Plan, all_changed, all_written, done, halted, idle_plan, quiet_plan}
 use Rattle.geo_base.specs.Planned.{Planned}
 use Rattle.geo_base.specs.Seeking.{restart, seek_index}
-use Rattle.geo_base.specs.Sender.{Sender, new_sender, pending_index, sender_reset, sender_restarted, sender_sent, without_number}
+use Rattle.geo_base.specs.Replicator.{Replicator, new_replicator, pending_index, replicator_reset, replicator_restarted, replicator_sent, without_number}
 use Rattle.geo_base.specs.Serving.{session_becomes}
 use Rattle.geo_base.specs.Setup.{Setup, declared_at}
 use Rattle.geo_base.specs.Subscription.{Subscription, after_acks, attached, cleared, detached, new_subscription, permitted, sought, with_acks}
 use Rattle.geo_base.specs.Topic.{grown, index_of, last_length}
-use Rattle.geo_base.specs.Updating.{passed_over, passes}
+use Rattle.geo_base.specs.Updating.{updated_indexes, is_updated}
 use Rattle.geo_base.specs.World.{World, topic_at}
 use Rattle.world_laws.specs.Indexes.{AreBelow}
 use Rattle.world_laws.proofs.OnceInOrder.Appends.{changed_entries}
@@ -87,14 +87,14 @@ acked_below : (n : ℕ) (ls : List ℕ) (kind : SubKind) (ps : List Position) (b
 acked_below n ls kind ps ack_kind.Individual le = stored_below n ls ps le
 acked_below n ls kind ps ack_kind.Cumulative le = on_if (AreBelow n) (allows_cumulative kind) _ _ (cumulative_below n ls ps le) (none_below n)
 
-passed_below : (y k m : ℕ) (es : List Entry) → AreBelow (k + length es) (passed_over y k m es)
+passed_below : (y k m : ℕ) (es : List Entry) → AreBelow (k + length es) (updated_indexes y k m es)
 passed_below y k zero es = none_below (k + length es)
 passed_below y k (suc m) [] = none_below (k + 0)
 passed_below y k (suc m) (e ∷ es) =
-    let later : AreBelow (k + length (e ∷ es)) (passed_over y (k + 1) m es) = wider (k + 1 + length es) (k + length (e ∷ es)) _ (omega arith) (passed_below y (k + 1) m es) in
-    on_if (AreBelow (k + length (e ∷ es))) (passes y e) _ _ (one_below (k + length (e ∷ es)) k _ (omega arith) later) later
+    let later : AreBelow (k + length (e ∷ es)) (updated_indexes y (k + 1) m es) = wider (k + 1 + length es) (k + length (e ∷ es)) _ (omega arith) (passed_below y (k + 1) m es) in
+    on_if (AreBelow (k + length (e ∷ es))) (is_updated y e) _ _ (one_below (k + length (e ∷ es)) k _ (omega arith) later) later
 
-over_below : (y m : ℕ) (es : List Entry) → AreBelow (length es) (passed_over y 0 m es)
+over_below : (y m : ℕ) (es : List Entry) → AreBelow (length es) (updated_indexes y 0 m es)
 over_below y m es = wider (0 + length es) (length es) _ (omega arith) (passed_below y 0 m es)
 
 -- BROKERS
@@ -105,25 +105,25 @@ SubBelow n v = AreBelow n v.cursor
 abbrev pub PendingBelow : ℕ → Pending → Type 0
 PendingBelow n p = p.index < n
 
-pub record SenderBelow (n : ℕ) (v : Sender) : Type 0 where
+pub record ReplicatorBelow (n : ℕ) (v : Replicator) : Type 0 where
   pub acked : AreBelow n v.cursor
   pub pending : Each (PendingBelow n) v.pending
 
 pub record Stocked (b : Broker) : Type 0 where
   pub ledgers : total b.ledgers ≤ length b.entries
   pub subs : Each (SubBelow (length b.entries)) b.subs
-  pub senders : (y : ℕ) → SenderBelow (length b.entries) (sender_at b y)
+  pub replicators : (y : ℕ) → ReplicatorBelow (length b.entries) (replicator_at b y)
 
 more_pending : (n m : ℕ) (ps : List Pending) → n ≤ m → Each (PendingBelow n) ps → Each (PendingBelow m) ps
 more_pending n m ps le h = each_map (PendingBelow n) (PendingBelow m) (λ p lt. omega (arith, le, lt)) ps h
 
-sender_wider : (n m : ℕ) (v : Sender) → n ≤ m → SenderBelow n v → SenderBelow m v
-sender_wider n m v le h = record { acked = wider n m v.cursor le h.acked; pending = more_pending n m v.pending le h.pending }
+replicator_wider : (n m : ℕ) (v : Replicator) → n ≤ m → ReplicatorBelow n v → ReplicatorBelow m v
+replicator_wider n m v le h = record { acked = wider n m v.cursor le h.acked; pending = more_pending n m v.pending le h.pending }
 
 subs_wider : (n m : ℕ) (vs : List Subscription) → n ≤ m → Each (SubBelow n) vs → Each (SubBelow m) vs
 subs_wider n m vs le h = each_map (SubBelow n) (SubBelow m) (λ v k. wider n m v.cursor le k) vs h
 
-pub new_stocked : (n : ℕ) → SenderBelow n new_sender
+pub new_stocked : (n : ℕ) → ReplicatorBelow n new_replicator
 new_stocked n = record { acked = none_below n; pending = tt }
 
 -- WRITES
@@ -132,13 +132,13 @@ new_stocked n = record { acked = none_below n; pending = tt }
 abbrev pub NamesStored : ℕ → Write → Type 0
 NamesStored n (write.Acks name is) = AreBelow n is
 NamesStored n (write.Seek name i) = i ≤ n
-NamesStored n (write.SenderAck y i) = i < n
+NamesStored n (write.ReplicatorAck y i) = i < n
 NamesStored n w = Unit {0}
 
 names_wider : (n m : ℕ) (w : Write) → n ≤ m → NamesStored n w → NamesStored m w
 names_wider n m (write.Acks name is) le h = wider n m is le h
 names_wider n m (write.Seek name i) le h = omega (arith, le, h)
-names_wider n m (write.SenderAck y i) le h = omega (arith, le, h)
+names_wider n m (write.ReplicatorAck y i) le h = omega (arith, le, h)
 names_wider n m (write.Append e) le h = tt
 names_wider n m (write.Create name kind replicated latest) le h = tt
 names_wider n m (write.Alter name kind replicated) le h = tt
@@ -156,7 +156,7 @@ longer per b (write.Alter name kind replicated) = omega arith
 longer per b (write.Delete name) = omega arith
 longer per b (write.Acks name is) = omega arith
 longer per b (write.Seek name i) = omega arith
-longer per b (write.SenderAck y i) = omega arith
+longer per b (write.ReplicatorAck y i) = omega arith
 longer per b (write.SessionNumber y n) = omega arith
 longer per b write.Ledger = omega arith
 
@@ -172,7 +172,7 @@ appended_stocked per b e h =
     record {
       ledgers = omega (arith, h.ledgers, grown_most per b.ledgers, one);
       subs = subs_wider n m b.subs le h.subs;
-      senders = λ y. sender_wider n m (sender_at b y) le (h.senders y);
+      replicators = λ y. replicator_wider n m (replicator_at b y) le (h.replicators y);
     }
 
 first_cursor : (n : ℕ) (latest : Bool) → AreBelow n (if latest then below n else [])
@@ -184,7 +184,7 @@ created_stocked per b name kind replicated latest h =
     on_if Stocked (is_some (sub_named b.subs name)) b _ h (record {
       ledgers = h.ledgers;
       subs = each_both (SubBelow n) b.subs (new_subscription name kind replicated (if latest then below n else []) ∷ []) h.subs (first_cursor n latest, tt);
-      senders = h.senders;
+      replicators = h.replicators;
     })
 
 -- what is done to the subscriptions of a name
@@ -192,14 +192,14 @@ named_stocked : (b : Broker) (name : List ℕ) (f : Subscription → Subscriptio
     → Stocked (at_sub b name f)
 named_stocked b name f k h =
     let P : Subscription → Type 0 = SubBelow (length b.entries) in
-    record { ledgers = h.ledgers; subs = each_to P P (at_name name f) (λ v p. on_if P (bytes_eq v.name name) (f v) v (k v p) p) b.subs h.subs; senders = h.senders }
+    record { ledgers = h.ledgers; subs = each_to P P (at_name name f) (λ v p. on_if P (bytes_eq v.name name) (f v) v (k v p) p) b.subs h.subs; replicators = h.replicators }
 
--- and to the sender to a cluster
-sender_stocked : (b : Broker) (y : ℕ) (f : Sender → Sender) → ((v : Sender) → SenderBelow (length b.entries) v → SenderBelow (length b.entries) (f v)) → Stocked b → Stocked (at_sender b y f)
-sender_stocked b y f k h = record {
+-- and to the replicator to a cluster
+replicator_stocked : (b : Broker) (y : ℕ) (f : Replicator → Replicator) → ((v : Replicator) → ReplicatorBelow (length b.entries) v → ReplicatorBelow (length b.entries) (f v)) → Stocked b → Stocked (at_replicator b y f)
+replicator_stocked b y f k h = record {
   ledgers = h.ledgers;
   subs = h.subs;
-  senders = λ z. at_set (SenderBelow (length b.entries)) b.senders y z (f (sender_at b y)) new_sender (λ _. k (sender_at b y) (h.senders y)) (h.senders z);
+  replicators = λ z. at_set (ReplicatorBelow (length b.entries)) b.replicators y z (f (replicator_at b y)) new_replicator (λ _. k (replicator_at b y) (h.replicators y)) (h.replicators z);
 }
 
 written_stocked : (per : ℕ) (b : Broker) (w : Write) → NamesStored (length b.entries) w → Stocked b → Stocked (written per b w)
@@ -209,14 +209,14 @@ written_stocked per b (write.Alter name kind replicated) s h = named_stocked b n
 written_stocked per b (write.Delete name) s h = record {
   ledgers = h.ledgers;
   subs = each_filter (SubBelow (length b.entries)) (λ (v : Subscription). not (bytes_eq v.name name)) b.subs h.subs;
-  senders = h.senders;
+  replicators = h.replicators;
 }
 written_stocked per b (write.Acks name is) s h = named_stocked b name (with_acks is) (λ v k. with_all (length b.entries) v.cursor is s k) h
 written_stocked per b (write.Seek name i) s h = named_stocked b name (sought i) (λ v k. all_below (length b.entries) i s) h
-written_stocked per b (write.SenderAck y i) s h =
-    sender_stocked b y (λ v. record v { cursor = with_index v.cursor i }) (λ v k. record { acked = with_one (length b.entries) v.cursor i s k.acked; pending = k.pending }) h
-written_stocked per b (write.SessionNumber y n) s h = sender_stocked b y (λ v. record v { session = n }) (λ v k. record { acked = k.acked; pending = k.pending }) h
-written_stocked per b write.Ledger s h = record { ledgers = omega (arith, h.ledgers, total_opened b.ledgers); subs = h.subs; senders = h.senders }
+written_stocked per b (write.ReplicatorAck y i) s h =
+    replicator_stocked b y (λ v. record v { cursor = with_index v.cursor i }) (λ v k. record { acked = with_one (length b.entries) v.cursor i s k.acked; pending = k.pending }) h
+written_stocked per b (write.SessionNumber y n) s h = replicator_stocked b y (λ v. record v { session = n }) (λ v k. record { acked = k.acked; pending = k.pending }) h
+written_stocked per b write.Ledger s h = record { ledgers = omega (arith, h.ledgers, total_opened b.ledgers); subs = h.subs; replicators = h.replicators }
 
 -- what each of some writes names
 all_named : (n m : ℕ) (ws : List Write) → n ≤ m → Each (NamesStored n) ws → Each (NamesStored m) ws
@@ -249,31 +249,31 @@ without_below n [] k h = tt
 without_below n (p ∷ ps) k h = on_if (Each (PendingBelow n)) (p.number == k) ps (p ∷ without_number ps k) h.1 (h.0, without_below n ps k h.1)
 
 changed_stocked : (b : Broker) (c : Change) → ReadsStored (length b.entries) c → Stocked b → Stocked (changed b c)
-changed_stocked b (change.Receiver x session) s h = record { ledgers = h.ledgers; subs = h.subs; senders = h.senders }
-changed_stocked b (change.Client c session) s h = record { ledgers = h.ledgers; subs = h.subs; senders = h.senders }
+changed_stocked b (change.Receiver x session) s h = record { ledgers = h.ledgers; subs = h.subs; replicators = h.replicators }
+changed_stocked b (change.Client c session) s h = record { ledgers = h.ledgers; subs = h.subs; replicators = h.replicators }
 changed_stocked b (change.Attach name k) s h = named_stocked b name (attached k) (λ v p. p) h
 changed_stocked b (change.Detach c) s h =
-    let P : Subscription → Type 0 = SubBelow (length b.entries) in record { ledgers = h.ledgers; subs = each_to P P (detached c) (λ v p. p) b.subs h.subs; senders = h.senders }
+    let P : Subscription → Type 0 = SubBelow (length b.entries) in record { ledgers = h.ledgers; subs = each_to P P (detached c) (λ v p. p) b.subs h.subs; replicators = h.replicators }
 changed_stocked b (change.Permit name c permits) s h = named_stocked b name (permitted c permits) (λ v p. p) h
-changed_stocked b (change.Passed name i) s h = named_stocked b name (passed_index i) (λ v p. p) h
+changed_stocked b (change.Skipped name i) s h = named_stocked b name (skipped_index i) (λ v p. p) h
 changed_stocked b (change.Given name i at) s h = named_stocked b name (given i at) (λ v p. p) h
 changed_stocked b (change.Cache name snapshot) s h = named_stocked b name (λ v. record v { cache = cached v.cache snapshot }) (λ v p. p) h
 changed_stocked b (change.Acked name) s h = named_stocked b name after_acks (λ v p. p) h
 changed_stocked b (change.Cleared name) s h = named_stocked b name cleared (λ v p. p) h
-changed_stocked b (change.Opening y) s h = sender_stocked b y sender_reset (λ v p. record { acked = p.acked; pending = tt }) h
-changed_stocked b (change.Opened y) s h = sender_stocked b y (λ v. record v { state = sender_state.Open }) (λ v p. record { acked = p.acked; pending = p.pending }) h
+changed_stocked b (change.Opening y) s h = replicator_stocked b y replicator_reset (λ v p. record { acked = p.acked; pending = tt }) h
+changed_stocked b (change.Opened y) s h = replicator_stocked b y (λ v. record v { state = replicator_state.Open }) (λ v p. record { acked = p.acked; pending = p.pending }) h
 changed_stocked b (change.Pend y i) s h =
-    sender_stocked b y (sender_sent i) (λ v p. record { acked = p.acked; pending = each_both (PendingBelow (length b.entries)) v.pending (record { number = v.next; index = i } ∷ []) p.pending (s, tt) }) h
-changed_stocked b (change.ReadTo y i) s h = sender_stocked b y (λ v. record v { read_index = i }) (λ v p. record { acked = p.acked; pending = p.pending }) h
+    replicator_stocked b y (replicator_sent i) (λ v p. record { acked = p.acked; pending = each_both (PendingBelow (length b.entries)) v.pending (record { number = v.next; index = i } ∷ []) p.pending (s, tt) }) h
+changed_stocked b (change.ReadTo y i) s h = replicator_stocked b y (λ v. record v { read_index = i }) (λ v p. record { acked = p.acked; pending = p.pending }) h
 changed_stocked b (change.Unpend y m) s h =
-    sender_stocked b y (λ v. record v { pending = without_number v.pending m }) (λ v p. record { acked = p.acked; pending = without_below (length b.entries) v.pending m p.pending }) h
-changed_stocked b (change.Building o) s h = record { ledgers = h.ledgers; subs = h.subs; senders = h.senders }
+    replicator_stocked b y (λ v. record v { pending = without_number v.pending m }) (λ v p. record { acked = p.acked; pending = without_below (length b.entries) v.pending m p.pending }) h
+changed_stocked b (change.Building o) s h = record { ledgers = h.ledgers; subs = h.subs; replicators = h.replicators }
 changed_stocked b change.Forget s h =
     let n = length b.entries in
     record {
       ledgers = h.ledgers;
       subs = each_to (SubBelow n) (SubBelow n) cleared (λ v p. p) b.subs h.subs;
-      senders = λ z. at_map (SenderBelow n) sender_restarted (λ v p. record { acked = p.acked; pending = tt }) b.senders z new_sender (new_stocked n) (h.senders z);
+      replicators = λ z. at_map (ReplicatorBelow n) replicator_restarted (λ v p. record { acked = p.acked; pending = tt }) b.replicators z new_replicator (new_stocked n) (h.replicators z);
     }
 
 all_read : (n m : ℕ) (cs : List Change) → n ≤ m → Each (ReadsStored n) cs → Each (ReadsStored m) cs
@@ -354,7 +354,7 @@ pending_below n (p ∷ ps) k i h is =
 
 answered_stored : (b : Broker) (y : ℕ) (p : Packet) (q : Plan) → Stocked b → Answered b y p q → IsOfStored (length b.entries) q
 answered_stored b y p q s (Answered.Received id k i position at is pending) =
-    of_stored (length b.entries) q (pending_below (length b.entries) (sender_at b y).pending k i (s.senders y).pending pending, tt) (tt, tt)
+    of_stored (length b.entries) q (pending_below (length b.entries) (replicator_at b y).pending k i (s.replicators y).pending pending, tt) (tt, tt)
 answered_stored b y p q s (Answered.Stale other) = of_stored (length b.entries) q tt tt
 answered_stored b y p q s (Answered.Other at other) = of_stored (length b.entries) q tt tt
 answered_stored b y p q s (Answered.Opened request name at is state) = of_stored (length b.entries) q tt (tt, tt)
@@ -401,9 +401,9 @@ reads_stored h b y q (Reads.AsksAgain i e id answer u u' next is heard) = of_sto
 reads_stored h b y q (Reads.Completes i e id answer u u' next is heard) = of_stored (length b.entries) q (tt, (stands_within b.entries i e next.2, tt)) (tt, (tt, tt))
 reads_stored h b y q (Reads.CreatesAt i j e name remote next is named) =
     of_stored (length b.entries) q (tt, (over_below y (j + 1) b.entries, (stands_within b.entries i e next.2, tt))) (tt, (tt, tt))
-reads_stored h b y q (Reads.PassesOver i j e name remote v ws next is named after) =
+reads_stored h b y q (Reads.ActsOnUpdate i j e name remote v ws next is named after) =
     let n = length b.entries in
-    of_stored n q (over_below y (j + 1) b.entries, each_both (NamesStored n) ws (write.SenderAck y i ∷ []) (updates_stored n h b _ ws after) (stands_within b.entries i e next.2, tt)) (tt, (tt, tt))
+    of_stored n q (over_below y (j + 1) b.entries, each_both (NamesStored n) ws (write.ReplicatorAck y i ∷ []) (updates_stored n h b _ ws after) (stands_within b.entries i e next.2, tt)) (tt, (tt, tt))
 
 snaps_stored : (n : ℕ) (h : Site) (b : Broker) (q : Plan) → Snaps h b q → IsOfStored n q
 snaps_stored n h b q Snaps.NothingToAsk = of_stored n q tt tt
@@ -412,7 +412,7 @@ snaps_stored n h b q (Snaps.Asks any none) = of_stored n q (tt, tt) (tt, tt)
 offers_stored : (h : Site) (b : Broker) (name : List ℕ) (q : Plan) → Offers h b name q → IsOfStored (length b.entries) q
 offers_stored h b name q Offers.NothingToOffer = of_stored (length b.entries) q tt tt
 offers_stored h b name q (Offers.Gives v i at e due is picked) = of_stored (length b.entries) q tt (tt, tt)
-offers_stored h b name q (Offers.PassesBy v i e ws due is after) =
+offers_stored h b name q (Offers.SkipsMarker v i e ws due is after) =
     let n = length b.entries in
     of_stored n q (one_below n i [] (stands_within b.entries i e due.2) (none_below n), updates_stored n h b _ ws after) (tt, (tt, tt))
 offers_stored h b name q (Offers.Caches v i j e c ws due is after) =

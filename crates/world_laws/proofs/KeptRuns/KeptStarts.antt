@@ -1,5 +1,5 @@
--- What is kept of a run behind a stop is a start again.
-use Rattle.std.proofs.Common.{◌≡◌, ℕ, zero, suc, ◌*◌, ◌/◌, ◌%◌, ◌<◌, ◌≤◌, List, [], ◌∷◌, ◌++◌, length, map, refl, sym, subst, arith}
+-- What is kept of a run after a stop is a start again.
+use Rattle.std.proofs.Common.{◌≡◌, ℕ, zero, suc, ◌*◌, ◌/◌, ◌%◌, ◌<◌, ◌≤◌, List, [], ◌∷◌, ◌++◌, length, refl, sym, subst, arith}
 use Rattle.std.specs.Prelude.{Option, None, slice_index_or}
 use Rattle.std.specs.List.{AllByRecursion}
 use Rattle.std.proofs.lemmas.Nat.{div-add-mod', div_below, mod_below}
@@ -11,14 +11,14 @@ use Rattle.geo_base.specs.Happening.{stops}
 use Rattle.geo_base.specs.Plan.{done}
 use Rattle.geo_base.specs.Scripted.{IsScripted}
 use Rattle.geo_base.specs.Seeking.{restart}
-use Rattle.geo_base.specs.Sender.{Sender, new_sender, sender_restarted}
+use Rattle.geo_base.specs.Replicator.{Replicator, new_replicator, replicator_restarted}
 use Rattle.geo_base.specs.Setup.{Setup, declared_at}
 use Rattle.geo_base.specs.Subscription.{Subscription, cleared}
 use Rattle.geo_base.specs.World.{World, broker_at, client_at, node, topic_at}
 use Rattle.geo_base.specs.Worlds.{IsWorldOf}
 use Rattle.world_laws.specs.Reached.{AfterStop, MayBeKept, ReachedFrom}
 use Rattle.world_laws.specs.Starts.{AreStored, IsStart, IsStartBroker, IsStartClient, IsStartSub, most_at_start, resumed_world}
-use Rattle.world_laws.specs.Within.{ClientWithin, SenderWithin}
+use Rattle.world_laws.specs.Within.{ClientWithin, ReplicatorWithin}
 use Rattle.world_laws.proofs.Replicating.Effects.{Each}
 use Rattle.world_laws.proofs.Counters.Places.{opening_places}
 use Rattle.world_laws.proofs.Induction.Reaching.{carried, carried_there, ground, indexes, reached_has}
@@ -26,16 +26,13 @@ use Rattle.world_laws.proofs.Replicating.Sizes.{IsThere}
 use Rattle.world_laws.proofs.KeptRuns.Starting.{made_or}
 use Rattle.world_laws.proofs.KeptRuns.TurnRuns.{Turning, start_turning, stored_of, turning_on}
 use Rattle.world_laws.proofs.FrameContents.Widths.{Named}
+use Rattle.geo_base.proofs.Lists.{map_again}
 
 -- ---- lists
 
 all_at : {X : Type 0} (P : X → Type 0) (d : ℕ → X) (xs : List X) → ((i : ℕ) → P (slice_index_or xs i (d i))) → AllByRecursion P xs
 all_at P d [] f = tt
 all_at P d (x ∷ xs) f = (f zero, all_at P (λ i. d (suc i)) xs (λ i. f (suc i)))
-
-map_twice : {X : Type 0} (f : X → X) → ((x : X) → f (f x) ≡ f x) → (xs : List X) → map f (map f xs) ≡ map f xs
-map_twice f same [] = refl
-map_twice f same (x ∷ xs) = rw (same x, map_twice f same xs) refl
 
 subs_start : (vs : List Subscription) → Each Named vs → AllByRecursion (λ (v : Subscription). v.seeks ≤ most_at_start) vs → AllByRecursion IsStartSub vs
 subs_start [] names seeks = tt
@@ -61,10 +58,10 @@ place_of s z lt =
 forget_twice : (b : Broker) → changed (changed b change.Forget) change.Forget ≡ changed b change.Forget
 forget_twice b =
     rw (
-      map_twice sender_restarted (λ v. refl) b.senders,
-      map_twice (λ (r : Option ℕ). None) (λ r. refl) b.receivers,
-      map_twice cleared (λ v. refl) b.subs,
-      map_twice (λ (v : Option Session). None) (λ v. refl) b.sessions,
+      map_again replicator_restarted (λ v. refl) b.replicators,
+      map_again (λ (r : Option ℕ). None) (λ r. refl) b.receivers,
+      map_again cleared (λ v. refl) b.subs,
+      map_again (λ (v : Option Session). None) (λ v. refl) b.sessions,
     ) refl
 
 rested : (per : ℕ) (b : Broker) → changed (done per b restart) change.Forget ≡ done per b restart
@@ -92,12 +89,12 @@ entries_stored s scripted v w t x start r there =
     stored_of (length s.clusters) x [] (topic_at s w t x).entries (turn.1 t x there) (λ e i at. (carried s scripted v w start r).origins t x i e there.1 at)
 
 broker_start : (s : Setup) → IsScripted s → (v w : World) (t x : ℕ) → IsStart s v → ReachedFrom s v w → IsThere s t x → length (topic_at s w t x).entries ≤ most_at_start
-    → ((y : ℕ) → SenderWithin most_at_start (slice_index_or (topic_at s w t x).senders y new_sender)) → AllByRecursion (λ (u : Subscription). u.seeks ≤ most_at_start) (topic_at s w t x).subs
+    → ((y : ℕ) → ReplicatorWithin most_at_start (slice_index_or (topic_at s w t x).replicators y new_replicator)) → AllByRecursion (λ (u : Subscription). u.seeks ≤ most_at_start) (topic_at s w t x).subs
     → changed (topic_at s w t x) change.Forget ≡ topic_at s w t x → IsStartBroker (length s.clusters) x (topic_at s w t x)
 broker_start s scripted v w t x start r there few sessions seeks rest = record {
   few = few;
   entries = entries_stored s scripted v w t x start r there;
-  senders = all_at (λ (u : Sender). u.session ≤ most_at_start) (λ i. new_sender) (topic_at s w t x).senders (λ y. (sessions y).session);
+  replicators = all_at (λ (u : Replicator). u.session ≤ most_at_start) (λ i. new_replicator) (topic_at s w t x).replicators (λ y. (sessions y).session);
   subs = subs_start (topic_at s w t x).subs ((carried_there s scripted v w start r).0.1 t x there).names seeks;
   at_rest = rest;
 }
@@ -131,4 +128,4 @@ kept_start s scripted v w start r may = record {
     there z within p =
         let t = z / length s.clusters in let x = z % length s.clusters in let i = node s t x in
         let within' : i < length w'.brokers = subst (λ (m : ℕ). m < length w'.brokers) (sym p.is) within in
-        broker_start s scripted v w' t x start r' p.there (may.few i within') (may.numbers.brokers i).senders (may.numbers.brokers i).seeks (stopped_rested s w i)
+        broker_start s scripted v w' t x start r' p.there (may.few i within') (may.numbers.brokers i).replicators (may.numbers.brokers i).seeks (stopped_rested s w i)

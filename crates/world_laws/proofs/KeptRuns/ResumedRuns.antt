@@ -1,4 +1,4 @@
--- A run that is resumed from where it was kept is alike to the one that goes on behind the stop.
+-- A run that is resumed from where it was kept is alike to the one that goes on after the stop.
 use Rattle.std.proofs.Common.{◌≡◌, ℕ, zero, suc, ◌+◌, ◌^◌, ◌<◌, ◌==◌, Bool, true, false, List, [], ◌∷◌, ◌++◌, refl, sym, ap, subst, ◌∙◌}
 use Rattle.std.specs.Prelude.{Option, Some, None, ◌||◌, if◌then◌else◌, is_some, slice_index_or, slice_set, take}
 use Rattle.std.proofs.lemmas.Bool.{false≢true}
@@ -70,7 +70,7 @@ pub stopped_none : (l : Limits) (s : Setup) (p : Ran) → (steps l s p step.Stop
 unfolding steps
 stopped_none l s p h = gone_none l p (stops s p.world) h
 
--- the run behind a stop, as the one that is loaded
+-- the run after a stop, as the one that is loaded
 loaded_run : (l : Limits) (s : Setup) (v : World) (p : Ran) → IsStart s v → ReachedFrom s v p.world → (steps l s p step.Stop).ended ≡ None
     → RunsAlike (steps l s p step.Stop) (begun (resumed_world s (steps l s p step.Stop).world))
 loaded_run l s v p start r h =

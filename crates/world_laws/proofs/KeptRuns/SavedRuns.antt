@@ -1,4 +1,4 @@
--- Behind the steps of every script and a stop, within the limits of a run, what is kept is a start.
+-- After the steps of every script and a stop, within the limits of a run, what is kept is a start.
 use Rattle.std.proofs.Common.{◌≡◌, ℕ, zero, suc, ◌+◌, ◌*◌, ◌<◌, ◌≤◌, ◌==◌, Bool, true, false, List, [], ◌∷◌, ◌++◌, length, refl, sym, ap, subst, ◌∙◌, arith}
 use Rattle.std.specs.Prelude.{Option, Some, None, ◌||◌, if◌then◌else◌, is_some, nat_lt}
 use Rattle.std.specs.List.{AllByRecursion}
@@ -29,6 +29,7 @@ use Rattle.world_laws.proofs.Counters.Rising.{numbers_between}
 use Rattle.world_laws.proofs.Induction.Runs.{between_by_events, in_run}
 use Rattle.world_laws.proofs.KeptRuns.Starting.{opening_starts}
 use Rattle.world_laws.proofs.Walks.Walk.{on_if}
+use Rattle.geo_base.proofs.Bools.{or_not_second}
 
 -- ---- a round that is counted does an event
 
@@ -100,10 +101,6 @@ on_round : (b : Bool) (x y : Ran) → Fewer x → (b ≡ false → Fewer y) → 
 on_round true x y f g = f
 on_round false x y f g = g refl
 
-second_false : (a b : Bool) → (a || b) ≡ false → b ≡ false
-second_false true b h = absurd (false≢true (sym h))
-second_false false b h = h
-
 rounds_fewer : (n : ℕ) (s : Setup) (r : Ran) → Fewer r → Fewer (rounds_of n all_limits s r)
 rounds_fewer zero s r few = few
 rounds_fewer (suc n) s r few =
@@ -111,7 +108,7 @@ rounds_fewer (suc n) s r few =
     let later : IsLater r.world r'.world = settle_later s r (round_of (pairs s)) in
     on_round (is_some r'.ended || (r'.world.events == r.world.events)) r' (rounds_of n all_limits s (counting_round r')) (later_fewer r r' later few)
     (λ busy.
-    let other : r'.world.events ≡ r.world.events → ⊥ = eqb-false r'.world.events r.world.events (second_false (is_some r'.ended) (r'.world.events == r.world.events) busy) in
+    let other : r'.world.events ≡ r.world.events → ⊥ = eqb-false r'.world.events r.world.events (or_not_second (is_some r'.ended) (r'.world.events == r.world.events) busy) in
     rounds_fewer n s (counting_round r') (omega (arith, other, later.rounds, later.events, few)))
 
 step_fewer : (s : Setup) (r : Ran) (e : Step) → Fewer r → Fewer (steps all_limits s r e)
@@ -163,7 +160,7 @@ seeks_more n m (v ∷ vs) le h = (omega (arith, le, h.0), seeks_more n m vs le h
 numbers_more : (s : Setup) (n m : ℕ) (w : World) → n ≤ m → NumbersWithin s n w → NumbersWithin s m w
 numbers_more s n m w le h = record {
   brokers = λ z. let b = h.brokers z in record {
-    senders = λ y. record { session = omega (arith, le, (b.senders y).session); next = omega (arith, le, (b.senders y).next) };
+    replicators = λ y. record { session = omega (arith, le, (b.replicators y).session); next = omega (arith, le, (b.replicators y).next) };
     seeks = seeks_more n m (broker_at w z).subs le b.seeks;
   };
   clients = λ c. let k = h.clients c in record {

@@ -14,13 +14,13 @@ use Rattle.geo_base.specs.Broker.{Broker, changed, new_broker, no_broker}
 use Rattle.geo_base.specs.Client.{Client, new_client}
 use Rattle.geo_base.specs.Entry.{with_origin}
 use Rattle.geo_base.specs.Safe.{AllOnce, IsOnce}
-use Rattle.geo_base.specs.Sender.{Sender, new_sender, sender_restarted}
+use Rattle.geo_base.specs.Replicator.{Replicator, new_replicator, replicator_restarted}
 use Rattle.geo_base.specs.Setup.{Declared, Setup, declared_at}
 use Rattle.geo_base.specs.Subscription.{cleared}
 use Rattle.geo_base.specs.World.{Links, World, broker_at, client_at, node, opening_world, topic_at}
 use Rattle.world_laws.specs.Reached.{IsPlainOrOf}
 use Rattle.world_laws.specs.Starts.{AreStored, IsStart, IsStartBroker, IsStartClient, IsStartSub, most_at_start}
-use Rattle.world_laws.specs.Within.{ClientWithin, SenderWithin}
+use Rattle.world_laws.specs.Within.{ClientWithin, ReplicatorWithin}
 use Rattle.world_laws.proofs.Counters.Bounds.{AllStamps, opening_within}
 use Rattle.world_laws.proofs.Snapshotting.Caches.{Cached}
 use Rattle.world_laws.proofs.FrameContents.Carrying.{Carried, Stored, Suits, carried_unused}
@@ -36,16 +36,13 @@ use Rattle.world_laws.proofs.Counters.Rising.{Counted}
 use Rattle.world_laws.proofs.Replicating.Sizes.{IsThere, Sized, node_lt, sized_kept}
 use Rattle.world_laws.proofs.Counters.Slow.{Below, SeeksAt}
 use Rattle.world_laws.proofs.FrameContents.Widths.{AllWide, Named, Wide}
+use Rattle.geo_base.proofs.Lists.{map_of_copies}
 
 -- ---- lists
 
 all_copies : {X : Type 0} (P : X → Type 0) (n : ℕ) (x : X) → P x → AllByRecursion P (replicate n x)
 all_copies P zero x p = tt
 all_copies P (suc n) x p = (p, all_copies P n x p)
-
-same_copies : {X : Type 0} (f : X → X) (n : ℕ) (x : X) → f x ≡ x → map f (replicate n x) ≡ replicate n x
-same_copies f zero x same = refl
-same_copies f (suc n) x same = rw (same, same_copies f n x same) refl
 
 pub all_made : {X Y : Type 0} (P : Y → Type 0) (f : X → Y) → ((x : X) → P (f x)) → (xs : List X) → AllByRecursion P (map f xs)
 all_made P f p [] = tt
@@ -77,9 +74,9 @@ new_starts : (clusters own clients : ℕ) → IsStartBroker clusters own (new_br
 new_starts clusters own clients = record {
   few = omega arith;
   entries = tt;
-  senders = all_copies (λ (v : Sender). v.session ≤ most_at_start) clusters new_sender (omega arith);
+  replicators = all_copies (λ (v : Replicator). v.session ≤ most_at_start) clusters new_replicator (omega arith);
   subs = tt;
-  at_rest = rw (same_copies sender_restarted clusters new_sender refl, same_copies (λ (r : Option ℕ). None) clusters None refl, same_copies (λ (v : Option Session). None) clients None refl) refl;
+  at_rest = rw (map_of_copies replicator_restarted clusters new_replicator refl, map_of_copies (λ (r : Option ℕ). None) clusters None refl, map_of_copies (λ (v : Option Session). None) clients None refl) refl;
 }
 
 client_starts : (d : Declared) → IsStartClient (new_client d)
@@ -115,7 +112,7 @@ start_sized : (s : Setup) (v : World) → IsStart s v → Sized s v
 start_sized s v h = record {
   brokers = h.places.brokers;
   cells = λ t x y there lt. subst (λ (ls : Links). HasCell ls.forward (node s t x) y) (sym (unused_links s v h)) ((sized_kept s).opening.cells t x y there lt);
-  wide = λ t x there. let p = h.places.each (node s t x) (node_within s v t x h there) in record { senders = p.senders; receivers = p.receivers };
+  wide = λ t x there. let p = h.places.each (node s t x) (node_within s v t x h there) in record { replicators = p.replicators; receivers = p.receivers };
 }
 
 start_wide : (s : Setup) (v : World) → IsStart s v → AllWide s v
@@ -130,20 +127,20 @@ start_wide s v h t x there =
 
 -- ---- numbers
 
-sender_within : (n : ℕ) (b : Broker) (y : ℕ) → most_at_start ≤ n → AllByRecursion (λ (u : Sender). u.session ≤ most_at_start) b.senders → changed b change.Forget ≡ b
-    → SenderWithin n (slice_index_or b.senders y new_sender)
-sender_within n b y le sessions rest =
-    let session : (slice_index_or b.senders y new_sender).session ≤ most_at_start = at_place (λ (u : Sender). u.session ≤ most_at_start) b.senders new_sender y sessions (omega arith) in
-    let next : (slice_index_or b.senders y new_sender).next ≤ 0 =
-    subst (λ (c : Broker). (slice_index_or c.senders y new_sender).next ≤ 0) rest (made_or (λ (u : Sender). u.next ≤ 0) sender_restarted new_sender (λ u. omega arith) (omega arith) b.senders y) in
+replicator_within : (n : ℕ) (b : Broker) (y : ℕ) → most_at_start ≤ n → AllByRecursion (λ (u : Replicator). u.session ≤ most_at_start) b.replicators → changed b change.Forget ≡ b
+    → ReplicatorWithin n (slice_index_or b.replicators y new_replicator)
+replicator_within n b y le sessions rest =
+    let session : (slice_index_or b.replicators y new_replicator).session ≤ most_at_start = at_place (λ (u : Replicator). u.session ≤ most_at_start) b.replicators new_replicator y sessions (omega arith) in
+    let next : (slice_index_or b.replicators y new_replicator).next ≤ 0 =
+    subst (λ (c : Broker). (slice_index_or c.replicators y new_replicator).next ≤ 0) rest (made_or (λ (u : Replicator). u.next ≤ 0) replicator_restarted new_replicator (λ u. omega arith) (omega arith) b.replicators y) in
     record { session = omega (arith, session, le); next = omega (arith, next) }
 
 none_below : (n : ℕ) → Below n no_broker
-none_below n = record { senders = λ y. record { session = omega arith; next = omega arith }; seeks = tt }
+none_below n = record { replicators = λ y. record { session = omega arith; next = omega arith }; seeks = tt }
 
 broker_below : (n clusters own : ℕ) (b : Broker) → most_at_start ≤ n → IsStartBroker clusters own b → Below n b
 broker_below n clusters own b le h = record {
-  senders = λ y. sender_within n b y le h.senders h.at_rest;
+  replicators = λ y. replicator_within n b y le h.replicators h.at_rest;
   seeks = each_of IsStartSub (SeeksAt n) (λ u k. omega (arith, k.seeks, le)) b.subs h.subs;
 }
 

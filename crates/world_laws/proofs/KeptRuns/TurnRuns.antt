@@ -1,4 +1,4 @@
--- In every world of a run each entry of a topic is new behind those before it, and own markers are numbered in turn.
+-- In every world of a run each entry of a topic is new after those before it, and own markers are numbered in turn.
 use Rattle.std.proofs.Common.{◌≡◌, ℕ, zero, suc, ◌<◌, true, List, [], ◌∷◌, ◌++◌, length, refl, sym, subst, ◌∙◌}
 use Rattle.std.specs.Prelude.{Option, Some, None, slice_get, take}
 use Rattle.std.proofs.lemmas.List.{append-nil, append_assoc}
@@ -32,7 +32,7 @@ use Rattle.world_laws.proofs.Walks.Walk.{left, on_if, right}
 
 -- ---- lists
 
--- an entry behind others
+-- an entry after others
 pub record IsInTurn (own : ℕ) (before : List Entry) (e : Entry) : Type 0 where
   pub new : accepts before e.ident ≡ true
   pub marker : Numbered own before e

@@ -81,16 +81,16 @@ taken_stands R s k st (x ∷ xs) (d ∷ ds) h =
     (taken_stands R s k (state_after s st d) xs ds h.1)
 
 -- so what they stand for are histories that agree
-pub bytes_are_histories : {B : Type 0} (R : B → Packet → Type 0) (s : Setup) (books : ℕ → List (ByteEvent B)) (hs : List (List RecordedEvent))
-    → ((b : B) (p q : Packet) → R b p → R b q → IsAlike s p q) → AreByteHistories R s books hs → AreHistories s hs
-bytes_are_histories R s books hs one are = record {
+pub bytes_are_histories : {B : Type 0} (R : B → Packet → Type 0) (s : Setup) (logs : ℕ → List (ByteEvent B)) (hs : List (List RecordedEvent))
+    → ((b : B) (p q : Packet) → R b p → R b q → IsAlike s p q) → AreByteHistories R s logs hs → AreHistories s hs
+bytes_are_histories R s logs hs one are = record {
   nodes = are.nodes;
   replay = are.replay;
   agree = λ k has.
       let z = taker_of s k in
       let a = are.agree k has in
-      let taken = taken_stands R s k (opening_state s z) (books z) (history_of hs z) (are.stands z) in
-      let sent = sent_stands R s k (books (sender_of s k)) (history_of hs (sender_of s k)) (are.stands (sender_of s k)) in
-      bytes_agree R s one (bytes_taken_in s k (opening_state s z) (books z) (history_of hs z)) a.0 _ _ taken
+      let taken = taken_stands R s k (opening_state s z) (logs z) (history_of hs z) (are.stands z) in
+      let sent = sent_stands R s k (logs (sender_of s k)) (history_of hs (sender_of s k)) (are.stands (sender_of s k)) in
+      bytes_agree R s one (bytes_taken_in s k (opening_state s z) (logs z) (history_of hs z)) a.0 _ _ taken
       (subst (λ bs. PacketsStand R bs (sent_in s k (history_of hs (sender_of s k)))) a.1 sent);
 }

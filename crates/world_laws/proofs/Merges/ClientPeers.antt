@@ -8,7 +8,7 @@ use Rattle.world_laws.proofs.Types.event
 use Rattle.world_laws.proofs.Types.frame
 use Rattle.world_laws.proofs.Types.line
 use Rattle.world_laws.proofs.Types.peer
-use Rattle.world_laws.proofs.Types.place
+use Rattle.world_laws.proofs.Types.cluster_ref
 use Rattle.geo_base.specs.Client.{Acted, Client, becomes, command, command_at, commands_at, connected_to, connects, id_of, reconnect, stays, to_broker}
 use Rattle.geo_base.specs.Getting.{answered, get, got_frame, is_duplicate, is_number, publishes, received, with_error, with_receipt, without_seq}
 use Rattle.geo_base.specs.Going.{acks_all, acks_one, acks_to, ends_sub, first_held, go, go_line, most_unanswered, past}
@@ -137,8 +137,8 @@ got_stays d k (frame.SendReceipt id n p) = answered_stays d k n (with_receipt k 
 got_stays d k (frame.SendError id n code) = answered_stays d k n (with_error k) (record { is = refl })
 got_stays d k (frame.Error request code) = record { is = refl }
 got_stays d k (frame.Message id p None e) = received_stays k id _ p
-got_stays d k (frame.Message id p (Some (place.Known x)) e) = received_stays k id _ p
-got_stays d k (frame.Message id p (Some (place.Stranger name)) e) = record { is = refl }
+got_stays d k (frame.Message id p (Some (cluster_ref.Known x)) e) = received_stays k id _ p
+got_stays d k (frame.Message id p (Some (cluster_ref.Stranger name)) e) = record { is = refl }
 got_stays d k f = record { is = refl }
 
 get_follows : (d : Declared) (k : Client) (p : Option Packet) → Follows k (get d k p)

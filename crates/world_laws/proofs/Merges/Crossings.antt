@@ -1,7 +1,7 @@
 -- What is still to be taken from a link is a beginning of what waits on it and of what is still to be sent: so the next
 -- packet to be taken is the next on the link, if nothing that is still to be sent is older.
 use Rattle.std.proofs.Common.{◌≡◌, ℕ, ◌+◌, ◌<◌, ◌≤◌, Bool, true, false, List, [], ◌∷◌, ◌++◌, length, map, refl, sym, ap, subst, ◌∙◌, arith}
-use Rattle.std.specs.Prelude.{Option, Some, None, if◌then◌else◌, ◌&&◌, slice_get}
+use Rattle.std.specs.Prelude.{Option, Some, None, if◌then◌else◌, slice_get}
 use Rattle.std.proofs.lemmas.Bool.{eqb-true, false≢true, ltb-true, lt-ltb}
 use Rattle.std.proofs.lemmas.List.{append_assoc, length-append}
 use Rattle.std.proofs.lemmas.Nat.{div-mul-add}
@@ -20,18 +20,14 @@ use Rattle.world_laws.proofs.Merges.LinkTables.{moved, same_link_is}
 use Rattle.world_laws.proofs.OnceInOrder.Members.{get_right}
 use Rattle.world_laws.proofs.Replicating.Sizes.{node_lt}
 use Rattle.world_laws.proofs.Walks.Walk.{left, right}
-
--- the link to or from a peer is one of the setup, and the node is its end
-and_true : (a b : Bool) → a ≡ true → b ≡ true → (a && b) ≡ true
-and_true true b h k = k
-and_true false b h k = h
+use Rattle.geo_base.proofs.Bools.{and_of_both}
 
 node_there : (s : Setup) (t x : ℕ) → has_node s t x ≡ true → node s t x < broker_count s
 node_there s t x h = node_lt s t x (ltb-true _ _ (left _ _ h), ltb-true _ _ (right _ _ h))
 
 -- the link between two clusters of a topic
 pair_there : (s : Setup) (t x y : ℕ) → has_node s t x ≡ true → y < length s.clusters → has_link s (Forward (node s t x) y) ≡ true
-pair_there s t x y h lt = and_true _ _ (lt-ltb _ _ (node_there s t x h)) (lt-ltb _ _ lt)
+pair_there s t x y h lt = and_of_both _ _ (lt-ltb _ _ (node_there s t x h)) (lt-ltb _ _ lt)
 
 beside_is : (s : Setup) (t x y : ℕ) → y < length s.clusters → beside s (node s t y) x ≡ node s t x
 beside_is s t x y lt = ap (λ (k : ℕ). node s k x) (div-mul-add t (length s.clusters) y lt)
@@ -40,7 +36,7 @@ cluster_lt : (s : Setup) (t x : ℕ) → has_node s t x ≡ true → x < length 
 cluster_lt s t x h = ltb-true _ _ (right _ _ h)
 
 with_cluster : (s : Setup) (t x y : ℕ) → has_node s t x ≡ true → y < length s.clusters → has_node s t y ≡ true
-with_cluster s t x y h lt = and_true _ _ (left _ _ h) (lt-ltb _ _ lt)
+with_cluster s t x y h lt = and_of_both _ _ (left _ _ h) (lt-ltb _ _ lt)
 
 pub record IsEnd (s : Setup) (k : LinkName) (end n : ℕ) : Type 0 where
   pub has : has_link s k ≡ true
@@ -55,11 +51,11 @@ takes_there s (BrokerNode t x) (peer.Back y) h p =
 takes_there s (BrokerNode t x) (peer.Client c) h p =
     let same : (declared_at s c).topic ≡ t = eqb-true _ _ (right _ _ p) in
     record {
-      has = and_true _ _ (left _ _ p) (subst (λ (i : ℕ). has_node s i x ≡ true) (sym same) h);
+      has = and_of_both _ _ (left _ _ p) (subst (λ (i : ℕ). has_node s i x ≡ true) (sym same) h);
       here = ap (λ (i : ℕ). node s i x) same;
     }
 takes_there s (BrokerNode t x) (peer.Broker y) h p = absurd (false≢true p)
-takes_there s (ClientNode c) (peer.Broker x) h p = record { has = and_true _ _ h p; here = refl }
+takes_there s (ClientNode c) (peer.Broker x) h p = record { has = and_of_both _ _ h p; here = refl }
 takes_there s (ClientNode c) q h p = absurd (false≢true p)
 
 pub sends_there : (s : Setup) (n : Node) (q : Peer) → is_node s n ≡ true → is_peer s n q ≡ true
@@ -71,11 +67,11 @@ sends_there s (BrokerNode t x) (peer.Back y) h p =
 sends_there s (BrokerNode t x) (peer.Client c) h p =
     let same : (declared_at s c).topic ≡ t = eqb-true _ _ (right _ _ p) in
     record {
-      has = and_true _ _ (left _ _ p) (subst (λ (i : ℕ). has_node s i x ≡ true) (sym same) h);
+      has = and_of_both _ _ (left _ _ p) (subst (λ (i : ℕ). has_node s i x ≡ true) (sym same) h);
       here = ap (λ (i : ℕ). node s i x) same;
     }
 sends_there s (BrokerNode t x) (peer.Broker y) h p = absurd (false≢true p)
-sends_there s (ClientNode c) (peer.Broker x) h p = record { has = and_true _ _ h p; here = refl }
+sends_there s (ClientNode c) (peer.Broker x) h p = record { has = and_of_both _ _ h p; here = refl }
 sends_there s (ClientNode c) q h p = absurd (false≢true p)
 
 -- so a node takes nothing from a link of another's, and sends nothing on one

@@ -9,6 +9,7 @@ use Rattle.geo_base.specs.NodeState.{NodeState}
 use Rattle.geo_base.specs.Setup.{Setup}
 use Rattle.world_laws.proofs.Replicating.Effects.{Each, each_both, each_map}
 use Rattle.world_laws.proofs.Walks.Walk.{left, right}
+use Rattle.geo_base.proofs.Sums.{eq_apart}
 
 -- the order in numbers
 pub data Earlier (a b : Merged) : Type 0 where
@@ -115,7 +116,7 @@ inserted_ordered a (b ∷ bs) h o = by (comes_before a b) refl (inserted_ordered
     by false e rest =
         (each_before b (inserted a bs) (each_inserted (Before b) a bs (earlier_is b a (other_way a b h.0 e)) (before_each b bs o.0)), rest)
 
--- each entry leads those of its node behind it
+-- each entry leads those of its node after it
 abbrev pub AllLead : List Merged → Type 0
 AllLead [] = Unit {0}
 AllLead (a ∷ as') = Each (Leads a) as' × AllLead as'
@@ -166,18 +167,11 @@ of_other : (z n : ℕ) (ds : List RecordedEvent) → (n == z) ≡ false → of_n
 of_other z n [] e = refl
 of_other z n (d ∷ ds) e = ap (λ (t : Bool). if t then d ∷ of_node z (of_history n ds) else of_node z (of_history n ds)) e ∙ of_other z n ds e
 
-unequal : (a b : ℕ) → (a ≡ b → ⊥) → (a == b) ≡ false
-unequal a b ne = by (a == b) refl
-  where
-    by : (t : Bool) → (a == b) ≡ t → t ≡ false
-    by true e = absurd (ne (eqb-true a b e))
-    by false e = refl
-
 below_all : (z n : ℕ) (hs : List (List RecordedEvent)) → z < n → of_node z (all_from n hs) ≡ []
 below_all z n [] lt = refl
 below_all z n (h ∷ hs) lt =
     of_append z (of_history n h) (all_from (n + 1) hs)
-    ∙ (ap (λ (ds : List RecordedEvent). ds ++ of_node z (all_from (n + 1) hs)) (of_other z n h (unequal n z (λ is. omega (arith, lt, is))))
+    ∙ (ap (λ (ds : List RecordedEvent). ds ++ of_node z (all_from (n + 1) hs)) (of_other z n h (eq_apart n z (λ is. omega (arith, lt, is))))
     ∙ below_all z (n + 1) hs (omega (arith, lt)))
 
 all_of : (n i : ℕ) (hs : List (List RecordedEvent)) → of_node (n + i) (all_from n hs) ≡ history_of hs i
@@ -191,7 +185,7 @@ all_of n zero (h ∷ hs) =
 all_of n (suc i) (h ∷ hs) =
     let at : n + suc i ≡ n + 1 + i = omega arith in
     of_append (n + suc i) (of_history n h) (all_from (n + 1) hs)
-    ∙ (ap (λ (ds : List RecordedEvent). ds ++ of_node (n + suc i) (all_from (n + 1) hs)) (of_other (n + suc i) n h (unequal n (n + suc i) (λ is. omega (arith, is))))
+    ∙ (ap (λ (ds : List RecordedEvent). ds ++ of_node (n + suc i) (all_from (n + 1) hs)) (of_other (n + suc i) n h (eq_apart n (n + suc i) (λ is. omega (arith, is))))
     ∙ (ap (λ (z : ℕ). of_node z (all_from (n + 1) hs)) at ∙ all_of (n + 1) i hs))
 
 -- stamps rise in a history

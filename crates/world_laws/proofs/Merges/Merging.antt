@@ -290,7 +290,7 @@ merges_more s w m ms ys next rest = record {
     clock_by z true = refl
     clock_by z false = refl
 
--- the first of them, with others behind them
+-- the first of them, with others after them
 pub merges : (s : Setup) (w : World) (ms ys : List Merged) → Stands s w (ms ++ ys) → IsOrdered (ms ++ ys) → Merges s w ms (after_all s w ms)
 merges s w [] ys h ordered = record {
   states = λ z. refl;

@@ -2,11 +2,11 @@
 -- the link, and nothing else looks at an entry.
 use Rattle.std.proofs.Common.{◌≡◌, ℕ, List, [], refl, sym, ap, ◌∙◌, ◌==◌}
 use Rattle.std.specs.Prelude.{Option, Some, None, if◌then◌else◌}
-use Rattle.world_laws.proofs.Types.{Entry, Event, Fate, Frame, Packet, Place, Position, Session}
+use Rattle.world_laws.proofs.Types.{Entry, Event, Fate, Frame, Packet, ClusterRef, Position, Session}
 use Rattle.world_laws.proofs.Types.event
 use Rattle.world_laws.proofs.Types.fate
 use Rattle.world_laws.proofs.Types.frame
-use Rattle.world_laws.proofs.Types.place
+use Rattle.world_laws.proofs.Types.cluster_ref
 use Rattle.geo_base.specs.Agreement.{IsAlike, without_origin}
 use Rattle.geo_base.specs.Broker.{Broker, Site, session_at}
 use Rattle.geo_base.specs.Client.{Client, becomes}
@@ -23,8 +23,8 @@ use Rattle.geo_base.specs.Setup.{Declared, Setup, declared_at}
 use Rattle.geo_base.specs.World.{site}
 
 -- what is the same for the two frames that carry an entry is the same for all
-of_frame : {X : Type 0} (g : Frame → X) → ((id seq : ℕ) (source : Option Place) (e : Entry) → g (frame.Send id seq source (with_origin 0 e)) ≡ g (frame.Send id seq source e))
-    → ((id : ℕ) (position : Position) (source : Option Place) (e : Entry) → g (frame.Message id position source (with_origin 0 e)) ≡ g (frame.Message id position source e))
+of_frame : {X : Type 0} (g : Frame → X) → ((id seq : ℕ) (source : Option ClusterRef) (e : Entry) → g (frame.Send id seq source (with_origin 0 e)) ≡ g (frame.Send id seq source e))
+    → ((id : ℕ) (position : Position) (source : Option ClusterRef) (e : Entry) → g (frame.Message id position source (with_origin 0 e)) ≡ g (frame.Message id position source e))
     → (f : Frame) → g (without_origin f) ≡ g f
 of_frame g send message frame.Connect = refl
 of_frame g send message frame.Connected = refl
@@ -49,13 +49,13 @@ of_frame g send message frame.Unreadable = refl
 abbrev pub packet_of : ℕ → ℕ → Frame → Option Packet
 packet_of session stamp f = Some (record { session = session; stamp = stamp; frame = f })
 
-send_served : (h : Site) (b : Broker) (c : ℕ) (s : Session) (id seq : ℕ) (source : Option Place) (e : Entry) (o : Option (List ℕ))
+send_served : (h : Site) (b : Broker) (c : ℕ) (s : Session) (id seq : ℕ) (source : Option ClusterRef) (e : Entry) (o : Option (List ℕ))
     → serve_send h b c s id seq source (with_origin 0 e) o ≡ serve_send h b c s id seq source e o
 send_served h b c s id seq source e None = refl
 send_served h b c s id seq source e (Some n) = refl
 
 -- of the open session, if there is one
-in_session : (h : Site) (b : Broker) (c n m id seq : ℕ) (source : Option Place) (e : Entry) (o : Option Session)
+in_session : (h : Site) (b : Broker) (c n m id seq : ℕ) (source : Option ClusterRef) (e : Entry) (o : Option Session)
     → unless_found (quiet_plan []) o (λ s. if s.number == n then serve_command h b c s (frame.Send id seq source (with_origin 0 e)) else quiet_plan [])
     ≡ unless_found (quiet_plan []) o (λ s. if s.number == n then serve_command h b c s (frame.Send id seq source e) else quiet_plan [])
 in_session h b c n m id seq source e None = refl
@@ -82,10 +82,10 @@ receipt_same h b y fate.Good n m f = of_frame (λ (f : Frame). receipt h b y fat
 receipt_same h b y fate.Lost n m f = refl
 receipt_same h b y fate.Twice n m f = of_frame (λ (f : Frame). receipt h b y fate.Twice (packet_of n m f)) (λ id seq source e. refl) (λ id position source e. refl) f
 
-got_same : (k : Client) (id : ℕ) (position : Position) (source : Option Place) (e : Entry) → got_message k id position source (with_origin 0 e) ≡ got_message k id position source e
+got_same : (k : Client) (id : ℕ) (position : Position) (source : Option ClusterRef) (e : Entry) → got_message k id position source (with_origin 0 e) ≡ got_message k id position source e
 got_same k id position None e = refl
-got_same k id position (Some (place.Known x)) e = refl
-got_same k id position (Some (place.Stranger name)) e = refl
+got_same k id position (Some (cluster_ref.Known x)) e = refl
+got_same k id position (Some (cluster_ref.Stranger name)) e = refl
 
 pub get_same : (d : Declared) (k : Client) (n m : ℕ) (f : Frame) → get d k (packet_of n m (without_origin f)) ≡ get d k (packet_of n m f)
 unfolding get

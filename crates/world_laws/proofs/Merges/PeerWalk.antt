@@ -109,7 +109,7 @@ changed_has C b (change.Permit n c permits) g h =
     at_sub_has C b n (permitted c permits)
     (λ v m. each_mapped (MayHave C) (λ (k : Consumer). if is_of c k then record k { permits = min most_permits (k.permits + permits) } else k)
     (permitted_has C c permits g) v.consumers m) h
-changed_has C b (change.Passed n i) g h = at_sub_has C b n _ (λ v m. m) h
+changed_has C b (change.Skipped n i) g h = at_sub_has C b n _ (λ v m. m) h
 changed_has C b (change.Given n i at) g h = at_sub_has C b n (given i at) (λ v m. served_has C v.kind v.consumers at m) h
 changed_has C b (change.Cache n c) g h = at_sub_has C b n _ (λ v m. m) h
 changed_has C b (change.Acked n) g h = at_sub_has C b n _ (λ v m. m) h

@@ -105,7 +105,7 @@ reads_keeps s t x b y q (Reads.Counts i e id answer u u' next is heard) = quiet 
 reads_keeps s t x b y q (Reads.AsksAgain i e id answer u u' next is heard) = quiet s (BrokerNode t x) b q (tt, (tt, tt)) tt
 reads_keeps s t x b y q (Reads.Completes i e id answer u u' next is heard) = quiet s (BrokerNode t x) b q (tt, (tt, tt)) tt
 reads_keeps s t x b y q (Reads.CreatesAt i j e m remote next is named) = quiet s (BrokerNode t x) b q (tt, (tt, tt)) tt
-reads_keeps s t x b y q (Reads.PassesOver i j e m remote v ws next is named after) = quiet s (BrokerNode t x) b q (tt, (tt, tt)) tt
+reads_keeps s t x b y q (Reads.ActsOnUpdate i j e m remote v ws next is named after) = quiet s (BrokerNode t x) b q (tt, (tt, tt)) tt
 
 snaps_keeps : (s : Setup) (n : Node) (h : Site) (b : Broker) (q : Plan) → Snaps h b q → Keeps s n b q
 snaps_keeps s n h b q Snaps.NothingToAsk = quiet s n b q tt tt
@@ -115,7 +115,7 @@ offers_keeps : (s : Setup) (n : Node) (h : Site) (b : Broker) (m : List ℕ) (q 
 offers_keeps s n h b m q Offers.NothingToOffer = quiet s n b q tt tt
 offers_keeps s n h b m q (Offers.Gives v i at e due is picked) =
     record { gives = (tt, tt); sends = λ k. (picked_counts (IsOf s n) b m v _ at k due.0 picked, tt) }
-offers_keeps s n h b m q (Offers.PassesBy v i e ws due is after) = quiet s n b q (tt, (tt, tt)) tt
+offers_keeps s n h b m q (Offers.SkipsMarker v i e ws due is after) = quiet s n b q (tt, (tt, tt)) tt
 offers_keeps s n h b m q (Offers.Caches v i j e c ws due is after) = quiet s n b q (tt, (tt, (tt, tt))) tt
 
 seeks_keeps : (s : Setup) (n : Node) (h : Site) (b : Broker) (m : List ℕ) (to : Option _) (q : Plan) → Seeks h b m to q → Keeps s n b q

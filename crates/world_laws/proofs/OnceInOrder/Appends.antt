@@ -33,7 +33,7 @@ written_entries per b (write.Alter n kind replicated ∷ ws) = written_entries p
 written_entries per b (write.Delete n ∷ ws) = written_entries per (written per b (write.Delete n)) ws
 written_entries per b (write.Acks n is ∷ ws) = written_entries per (written per b (write.Acks n is)) ws
 written_entries per b (write.Seek n i ∷ ws) = written_entries per (written per b (write.Seek n i)) ws
-written_entries per b (write.SenderAck y i ∷ ws) = written_entries per (written per b (write.SenderAck y i)) ws
+written_entries per b (write.ReplicatorAck y i ∷ ws) = written_entries per (written per b (write.ReplicatorAck y i)) ws
 written_entries per b (write.SessionNumber y n ∷ ws) = written_entries per (written per b (write.SessionNumber y n)) ws
 written_entries per b (write.Ledger ∷ ws) = written_entries per (written per b write.Ledger) ws
 
@@ -73,6 +73,6 @@ fresh_take es (suc k) (write.Append e ∷ ws) h =
     second_follows (accepts es e.ident) (fresh (es ++ e ∷ []) ws) (fresh (es ++ e ∷ []) (take k ws)) h (fresh_take (es ++ e ∷ []) k ws)
 fresh_take es (suc k) (w ∷ ws) h = fresh_take es k ws h
 
--- a beginning of them with a new ledger behind it, as a stop leaves them
+-- a beginning of them with a new ledger after it, as a stop leaves them
 pub fresh_halt : (es : List Entry) (k : ℕ) (ws : List Write) → fresh es ws ≡ true → fresh es (take k ws ++ write.Ledger ∷ []) ≡ true
 fresh_halt es k ws h = fresh_both es (take k ws) (write.Ledger ∷ []) (fresh_take es k ws h) refl

@@ -5,7 +5,7 @@ use Rattle.std.proofs.lemmas.Bool.Decides.{nat_tests}
 use Rattle.world_laws.proofs.Types.{Entry, Ident, Packet, Position, Write}
 use Rattle.world_laws.proofs.Types.write
 use Rattle.geo_base.specs.Broker.{Broker, Site, cluster_name}
-use Rattle.geo_base.specs.Builder.{current_id, snapshot_id}
+use Rattle.geo_base.specs.SnapshotBuilder.{current_id, snapshot_id}
 use Rattle.geo_base.specs.Entry.{is_own_marker, marker_producer, with_origin}
 use Rattle.geo_base.specs.Forwarding.{closes}
 use Rattle.geo_base.specs.Markers.{request_marker, response_marker, snapshot_marker}
@@ -89,9 +89,9 @@ fated_fresh per b Acts lost q f l Fated.Lost = l
 fated_fresh per b Acts lost q f l (Fated.Twice p p' a a') =
     fresh_both b.entries p.writes p'.writes (f b p a) (subst (λ es. fresh es p'.writes ≡ true) (done_entries per b p) (f (done per b p) p' a'))
 
--- what a sender read is acknowledged behind writes of its own
-handled_fresh : (es : List Entry) (y i : ℕ) (ws : List Write) → fresh es ws ≡ true → fresh es (ws ++ write.SenderAck y i ∷ []) ≡ true
-handled_fresh es y i ws h = fresh_both es ws (write.SenderAck y i ∷ []) h refl
+-- what a replicator read is acknowledged after writes of its own
+handled_fresh : (es : List Entry) (y i : ℕ) (ws : List Write) → fresh es ws ≡ true → fresh es (ws ++ write.ReplicatorAck y i ∷ []) ≡ true
+handled_fresh es y i ws h = fresh_both es ws (write.ReplicatorAck y i ∷ []) h refl
 
 reads_fresh : (h : Site) (b : Broker) (y : ℕ) (q : Plan) → Reads h b y q → Fresh b q
 reads_fresh h b y q Reads.NothingToRead = refl
@@ -105,7 +105,7 @@ reads_fresh h b y q (Reads.AsksAgain i e id answer u u' next is heard) =
 reads_fresh h b y q (Reads.Completes i e id answer u u' next is heard) =
     handled_fresh b.entries y i (write.Append (snapshot_marker h b u') ∷ []) (own_fresh h.own b (snapshot_marker h b u') refl)
 reads_fresh h b y q (Reads.CreatesAt i j e n remote next is named) = refl
-reads_fresh h b y q (Reads.PassesOver i j e n remote v ws next is named after) = handled_fresh b.entries y i ws (updates_fresh h b _ ws after)
+reads_fresh h b y q (Reads.ActsOnUpdate i j e n remote v ws next is named after) = handled_fresh b.entries y i ws (updates_fresh h b _ ws after)
 
 snaps_fresh : (h : Site) (b : Broker) (q : Plan) → Snaps h b q → Fresh b q
 snaps_fresh h b q Snaps.NothingToAsk = refl
@@ -114,7 +114,7 @@ snaps_fresh h b q (Snaps.Asks any none) = own_fresh h.own b (request_marker h b 
 offers_fresh : (h : Site) (b : Broker) (n : List ℕ) (q : Plan) → Offers h b n q → Fresh b q
 offers_fresh h b n q Offers.NothingToOffer = refl
 offers_fresh h b n q (Offers.Gives v i at e due is picked) = refl
-offers_fresh h b n q (Offers.PassesBy v i e ws due is after) = updates_fresh h b _ ws after
+offers_fresh h b n q (Offers.SkipsMarker v i e ws due is after) = updates_fresh h b _ ws after
 offers_fresh h b n q (Offers.Caches v i j e c ws due is after) = updates_fresh h b _ ws after
 
 seeks_fresh : (h : Site) (b : Broker) (n : List ℕ) (to : Option Position) (q : Plan) → Seeks h b n to q → Fresh b q

@@ -7,7 +7,7 @@ use Rattle.std.proofs.lemmas.Option.{none-some}
 use Rattle.world_laws.proofs.Types.{Frame, Held, Ident, Line, Packet, Position}
 use Rattle.world_laws.proofs.Types.frame
 use Rattle.world_laws.proofs.Types.line
-use Rattle.world_laws.proofs.Types.place
+use Rattle.world_laws.proofs.Types.cluster_ref
 use Rattle.geo_base.specs.Broker.{Broker}
 use Rattle.geo_base.specs.Client.{Acted, Client, reconnect}
 use Rattle.geo_base.specs.Entry.{with_origin}
@@ -172,8 +172,8 @@ frame_awaits d b k (frame.SendError id n code) told h = answered_awaits d b k n 
 frame_awaits d b k (frame.Error request code) told h =
     λ i seq is lt. elim (h i seq is lt) [ inl w ↦ inl w | inr a ↦ inr (answered_more b (ident_of d seq) k.errors (k.errors + 1) k.duplicates k.duplicates (omega arith) (omega arith) a) ]
 frame_awaits d b k (frame.Message id p None e) told h = received_awaits d b k id (with_origin k.cluster e).ident p h
-frame_awaits d b k (frame.Message id p (Some (place.Known x)) e) told h = received_awaits d b k id (with_origin x e).ident p h
-frame_awaits d b k (frame.Message id p (Some (place.Stranger name)) e) told h = h
+frame_awaits d b k (frame.Message id p (Some (cluster_ref.Known x)) e) told h = received_awaits d b k id (with_origin x e).ident p h
+frame_awaits d b k (frame.Message id p (Some (cluster_ref.Stranger name)) e) told h = h
 frame_awaits d b k f told h = h
 
 pub get_awaits : (d : Declared) (b : Broker) (k : Client) (o : Option Packet) → ((q : Packet) → o ≡ Some q → IsTold d b q.frame) → ClientAwaits d b k → ClientAwaits d b (get d k o).client

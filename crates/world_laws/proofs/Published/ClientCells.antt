@@ -1,4 +1,4 @@
--- The two links of each client and cluster are there, in every world; so what is sent on one stands there behind what was sent before.
+-- The two links of each client and cluster are there, in every world; so what is sent on one stands there after what was sent before.
 use Rattle.std.proofs.Common.{◌≡◌, ◌==◌, ℕ, ◌<◌, Bool, true, false, List, [], ◌∷◌, length, map, refl, sym, ap, subst, ◌∙◌}
 use Rattle.std.specs.Prelude.{Option, Some, None, if◌then◌else◌, ◌&&◌}
 use Rattle.std.proofs.lemmas.Bool.{false≢true}

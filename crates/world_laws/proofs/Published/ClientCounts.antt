@@ -7,7 +7,7 @@ use Rattle.std.proofs.lemmas.Option.{none-some}
 use Rattle.world_laws.proofs.Types.{Frame, Held, Line, Packet, Position}
 use Rattle.world_laws.proofs.Types.frame
 use Rattle.world_laws.proofs.Types.line
-use Rattle.world_laws.proofs.Types.place
+use Rattle.world_laws.proofs.Types.cluster_ref
 use Rattle.geo_base.specs.Client.{Acted, Client, reconnect}
 use Rattle.geo_base.specs.Getting.{get, got_frame, is_duplicate, is_number, publishes, with_receipt}
 use Rattle.geo_base.specs.Going.{acks_all, acks_one, acks_to, first_held, go, go_line, most_unanswered}
@@ -73,8 +73,8 @@ frame_most d k (frame.SendReceipt id n o) =
 frame_most d k (frame.SendError id n code) = on_if (λ (j : Client). j.receipts ≤ k.receipts + 0) (list_any (publishes d n) k.unanswered) _ _ (omega arith) (omega arith)
 frame_most d k (frame.Error request code) = omega arith
 frame_most d k (frame.Message id p None e) = on_if (λ (j : Client). j.receipts ≤ k.receipts + 0) (is_number id k.sub) _ _ (omega arith) (omega arith)
-frame_most d k (frame.Message id p (Some (place.Known x)) e) = on_if (λ (j : Client). j.receipts ≤ k.receipts + 0) (is_number id k.sub) _ _ (omega arith) (omega arith)
-frame_most d k (frame.Message id p (Some (place.Stranger name)) e) = omega arith
+frame_most d k (frame.Message id p (Some (cluster_ref.Known x)) e) = on_if (λ (j : Client). j.receipts ≤ k.receipts + 0) (is_number id k.sub) _ _ (omega arith) (omega arith)
+frame_most d k (frame.Message id p (Some (cluster_ref.Stranger name)) e) = omega arith
 frame_most d k f = omega arith
 
 pub get_most : (d : Declared) (k : Client) (q : Packet) → (get d k (Some q)).client.receipts ≤ k.receipts + one (positioned q.frame)

@@ -9,7 +9,7 @@ use Rattle.world_laws.proofs.Types.{Frame, Held, Ident, Line, Out, Packet, Peer,
 use Rattle.world_laws.proofs.Types.frame
 use Rattle.world_laws.proofs.Types.line
 use Rattle.world_laws.proofs.Types.peer
-use Rattle.world_laws.proofs.Types.place
+use Rattle.world_laws.proofs.Types.cluster_ref
 use Rattle.geo_base.specs.Client.{Acted, Client, command, command_at, commands_at, connected_to, connects, id_of, new_client, published, reconnect, stays}
 use Rattle.geo_base.specs.Entry.{with_origin}
 use Rattle.geo_base.specs.Getting.{answered, get, got_frame, is_duplicate, is_number, publishes, received, seq_of, with_error, with_receipt, without_seq}
@@ -240,8 +240,8 @@ frame_follows d k (frame.SendReceipt id n p) = answered_follows d k n _ (receipt
 frame_follows d k (frame.SendError id n code) = answered_follows d k n (with_error k) (record { cluster = refl; produce = refl; sub = refl; flow = refl; unanswered = λ e. e })
 frame_follows d k (frame.Error request code) = record { cluster = refl; produce = refl; sub = refl; flow = refl; unanswered = λ e. e }
 frame_follows d k (frame.Message id p None e) = received_follows k id (with_origin k.cluster e).ident p
-frame_follows d k (frame.Message id p (Some (place.Known x)) e) = received_follows k id (with_origin x e).ident p
-frame_follows d k (frame.Message id p (Some (place.Stranger name)) e) = itself k
+frame_follows d k (frame.Message id p (Some (cluster_ref.Known x)) e) = received_follows k id (with_origin x e).ident p
+frame_follows d k (frame.Message id p (Some (cluster_ref.Stranger name)) e) = itself k
 frame_follows d k f = itself k
 
 pub get_home : (d : Declared) (k : Client) (o : Option Packet) → IsHome d k → IsHome d (get d k o).client

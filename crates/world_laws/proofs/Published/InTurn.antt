@@ -56,7 +56,7 @@ pub earlier_longer : (us more : List Packet) (i j session r : ℕ) → i ≤ j �
 earlier_longer us more i j session r le h =
     let lt = h.before in record { place = h.place; packet = h.packet; before = omega (arith, lt, le); is = get_left us more h.place h.packet h.is; same = h.same; asks = h.asks }
 
--- of a packet behind us: each pub line of a smaller id was asked for in its session, or stands
+-- of a packet after us: each pub line of a smaller id was asked for in its session, or stands
 abbrev pub IsInTurn : Declared → List Entry → List Packet → ℕ → Packet → Type 0
 IsInTurn d es us i p = (q r : ℕ) → Asks q p.frame → IsPub d r → r < q → HasSeq d es r ⊎ Earlier us i p.session r
 

@@ -3,7 +3,7 @@ use Rattle.std.proofs.Common.{◌≡◌, ℕ, ◌<◌, List, [], length, refl, a
 use Rattle.std.specs.Prelude.{Option, nat_lt}
 use Rattle.std.proofs.lemmas.Bool.{ltb-true}
 use Rattle.std.proofs.lemmas.Option.{slice_get_within}
-use Rattle.world_laws.proofs.Types.{Entry, Frame, Out, Packet, Peer, Place, Position}
+use Rattle.world_laws.proofs.Types.{Entry, Frame, Out, Packet, Peer, ClusterRef, Position}
 use Rattle.world_laws.proofs.Types.frame
 use Rattle.world_laws.proofs.Types.peer
 use Rattle.geo_base.specs.Broker.{Broker, Site}
@@ -29,7 +29,7 @@ use Rattle.world_laws.proofs.Walks.EventWalk.{of_node}
 use Rattle.world_laws.proofs.Walks.Shapes.{Offers, Reads, Served, Shape, Taken}
 use Rattle.world_laws.proofs.Walks.Walk.{left}
 
-pub message_longer : (b b' : Broker) (x : ℕ) (p : Position) (source : Option Place) (e : Entry) → Lengthened b b' → MessageHolds b x p source e → MessageHolds b' x p source e
+pub message_longer : (b b' : Broker) (x : ℕ) (p : Position) (source : Option ClusterRef) (e : Entry) → Lengthened b b' → MessageHolds b x p source e → MessageHolds b' x p source e
 message_longer b b' x p source e g h = record {
   index = h.index;
   stands = grown_get b.entries b'.entries b.ledgers b'.ledgers g h.index e h.stands;
@@ -89,7 +89,7 @@ reads_quiet h b y q (Reads.Counts i e id answer u u' next is heard) = tt
 reads_quiet h b y q (Reads.AsksAgain i e id answer u u' next is heard) = tt
 reads_quiet h b y q (Reads.Completes i e id answer u u' next is heard) = tt
 reads_quiet h b y q (Reads.CreatesAt i j e n remote next is named) = tt
-reads_quiet h b y q (Reads.PassesOver i j e n remote v ws next is named after) = tt
+reads_quiet h b y q (Reads.ActsOnUpdate i j e n remote v ws next is named after) = tt
 
 -- consumers are of clients of the topic
 abbrev pub AreOwn : Setup → ℕ → Broker → Type 0
@@ -98,7 +98,7 @@ AreOwn s t b = (c : ℕ) → AllSubs (OwnConsumers t c (declared_at s c)) b
 offers_messages : (s : Setup) (t x : ℕ) (b : Broker) (n : List ℕ) (q : Plan) → AreOwn s t b → Numbered b.entries b.ledgers → Offers (site s t x) b n q
     → MessagesOut s t x (done s.per_ledger b q) q.sent
 offers_messages s t x b n q own numbered Offers.NothingToOffer = tt
-offers_messages s t x b n q own numbered (Offers.PassesBy v i e ws due is after) = tt
+offers_messages s t x b n q own numbered (Offers.SkipsMarker v i e ws due is after) = tt
 offers_messages s t x b n q own numbered (Offers.Caches v i j e c ws due is after) = tt
 offers_messages s t x b n q own numbered (Offers.Gives v i at e due is picked) =
     let k = consumer_at v.consumers at in let c = k.client in

@@ -3,7 +3,7 @@ use Rattle.std.proofs.Common.{◌≡◌, ℕ, ◌<◌, Bool, true, List, [], ◌
 use Rattle.std.specs.Prelude.{Option, Some, ◌&&◌, nat_le, is_none}
 use Rattle.std.specs.Str.{bytes_eq}
 use Rattle.std.proofs.lemmas.Bool.{eqb-true, false≢true, ltb-true}
-use Rattle.world_laws.proofs.Types.{Entry, Frame, Packet, Place, Position, Write}
+use Rattle.world_laws.proofs.Types.{Entry, Frame, Packet, ClusterRef, Position, Write}
 use Rattle.world_laws.proofs.Types.frame
 use Rattle.world_laws.proofs.Types.write
 use Rattle.geo_base.specs.Broker.{Broker, Site}
@@ -44,7 +44,7 @@ pub record IsSent (s : Setup) (c x seq : ℕ) (e : Entry) : Type 0 where
 second : (a b c d e : Bool) → (a && b && c && d && e) ≡ true → b ≡ true
 second a b c d e h = grind (arith, h)
 
-pub sent_is : (s : Setup) (c x id seq session : ℕ) (source : Option Place) (e : Entry) (f : Frame) (h : Site) (n : List ℕ) → f ≡ frame.Send id seq source e → is_sound h n seq source e ≡ true
+pub sent_is : (s : Setup) (c x id seq session : ℕ) (source : Option ClusterRef) (e : Entry) (f : Frame) (h : Site) (n : List ℕ) → f ≡ frame.Send id seq source e → is_sound h n seq source e ≡ true
     → Publishes s c x session f → IsSent s c x seq e
 sent_is s c x id seq session source e f h n is sound pubs = record {
   declared = p.0;
@@ -136,8 +136,8 @@ reads_own s t x h b y q (Reads.Counts i e id answer u u' next is heard) = tt
 reads_own s t x h b y q (Reads.AsksAgain i e id answer u u' next is heard) = ((λ own d. absurd (false≢true d)), tt)
 reads_own s t x h b y q (Reads.Completes i e id answer u u' next is heard) = ((λ own d. absurd (false≢true d)), tt)
 reads_own s t x h b y q (Reads.CreatesAt i j e n remote next is named) = tt
-reads_own s t x h b y q (Reads.PassesOver i j e n remote v ws next is named after) =
-    subst (Each (OwnPublished s t x)) (sym (appended_both ws (write.SenderAck y i ∷ []))) (each_both (OwnPublished s t x) (appended ws) [] (updates_own s t x h b _ ws after) tt)
+reads_own s t x h b y q (Reads.ActsOnUpdate i j e n remote v ws next is named after) =
+    subst (Each (OwnPublished s t x)) (sym (appended_both ws (write.ReplicatorAck y i ∷ []))) (each_both (OwnPublished s t x) (appended ws) [] (updates_own s t x h b _ ws after) tt)
 
 snaps_own : (s : Setup) (t x : ℕ) (h : Site) (b : Broker) (q : Plan) → Snaps h b q → AllOwn s t x q.writes
 snaps_own s t x h b q Snaps.NothingToAsk = tt
@@ -146,7 +146,7 @@ snaps_own s t x h b q (Snaps.Asks any none) = ((λ own d. absurd (false≢true d
 offers_own : (s : Setup) (t x : ℕ) (h : Site) (b : Broker) (n : List ℕ) (q : Plan) → Offers h b n q → AllOwn s t x q.writes
 offers_own s t x h b n q Offers.NothingToOffer = tt
 offers_own s t x h b n q (Offers.Gives v i at e due is picked) = tt
-offers_own s t x h b n q (Offers.PassesBy v i e ws due is after) = updates_own s t x h b _ ws after
+offers_own s t x h b n q (Offers.SkipsMarker v i e ws due is after) = updates_own s t x h b _ ws after
 offers_own s t x h b n q (Offers.Caches v i j e c ws due is after) = updates_own s t x h b _ ws after
 
 seeks_own : (s : Setup) (t x : ℕ) (h : Site) (b : Broker) (n : List ℕ) (to : Option Position) (q : Plan) → Seeks h b n to q → AllOwn s t x q.writes

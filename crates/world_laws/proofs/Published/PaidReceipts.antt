@@ -63,12 +63,12 @@ reads_zero c h b y q (Reads.Counts i e id answer u u' next is heard) = tt
 reads_zero c h b y q (Reads.AsksAgain i e id answer u u' next is heard) = tt
 reads_zero c h b y q (Reads.Completes i e id answer u u' next is heard) = tt
 reads_zero c h b y q (Reads.CreatesAt i j e n remote next is named) = tt
-reads_zero c h b y q (Reads.PassesOver i j e n remote v ws next is named after) = tt
+reads_zero c h b y q (Reads.ActsOnUpdate i j e n remote v ws next is named after) = tt
 
 offers_zero : (c : ℕ) (h : Site) (b : Broker) (n : List ℕ) (q : Plan) → Offers h b n q → Each (ZeroOut c) q.sent
 offers_zero c h b n q Offers.NothingToOffer = tt
 offers_zero c h b n q (Offers.Gives v i at e due is picked) = (zero_either _, tt)
-offers_zero c h b n q (Offers.PassesBy v i e ws due is after) = tt
+offers_zero c h b n q (Offers.SkipsMarker v i e ws due is after) = tt
 offers_zero c h b n q (Offers.Caches v i j e k ws due is after) = tt
 
 -- an event sends c no receipt with a position, or stores a message of c's and sends it one

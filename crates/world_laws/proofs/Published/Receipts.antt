@@ -12,7 +12,7 @@ use Rattle.geo_base.specs.Entry.{same_stream, with_origin}
 use Rattle.geo_base.specs.Forwarding.{closes}
 use Rattle.geo_base.specs.Plan.{Plan, done, quiet_plan}
 use Rattle.geo_base.specs.Planned.{Planned}
-use Rattle.geo_base.specs.Position.{nowhere}
+use Rattle.geo_base.specs.Position.{no_position}
 use Rattle.geo_base.specs.Seeking.{restart}
 use Rattle.geo_base.specs.Setup.{Setup, declared_at}
 use Rattle.geo_base.specs.Topic.{accepts, next_position}
@@ -118,7 +118,7 @@ served_receipts s t x c b p q topic numbered pubs (Served.Repeats v id seq sourc
         topic,
         sent.here,
         record {
-          position = nowhere;
+          position = no_position;
           told = refl;
           stored = λ is. absurd (false≢true (sym is));
           reached = refused_reached b i (subst (λ (j : Ident). accepts b.entries j ≡ false) sent.named old);
@@ -170,12 +170,12 @@ reads_no_receipt h b y q (Reads.Counts i e id answer u u' next is heard) = tt
 reads_no_receipt h b y q (Reads.AsksAgain i e id answer u u' next is heard) = tt
 reads_no_receipt h b y q (Reads.Completes i e id answer u u' next is heard) = tt
 reads_no_receipt h b y q (Reads.CreatesAt i j e n remote next is named) = tt
-reads_no_receipt h b y q (Reads.PassesOver i j e n remote v ws next is named after) = tt
+reads_no_receipt h b y q (Reads.ActsOnUpdate i j e n remote v ws next is named after) = tt
 
 offers_no_receipt : (h : Site) (b : Broker) (n : List ℕ) (q : Plan) → Offers h b n q → NoReceipts q.sent
 offers_no_receipt h b n q Offers.NothingToOffer = tt
 offers_no_receipt h b n q (Offers.Gives v i at e due is picked) = (tt, tt)
-offers_no_receipt h b n q (Offers.PassesBy v i e ws due is after) = tt
+offers_no_receipt h b n q (Offers.SkipsMarker v i e ws due is after) = tt
 offers_no_receipt h b n q (Offers.Caches v i j e c ws due is after) = tt
 
 pub shape_receipts : (s : Setup) (w : World) (p : Planned) → Shape s w p → AllPublish s w → ((c : ℕ) → c < length s.clients → p.topic ≡ (declared_at s c).topic → Numbered (topic_at s w p.topic p.cluster).entries (topic_at s w p.topic p.cluster).ledgers)

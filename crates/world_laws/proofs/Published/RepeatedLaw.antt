@@ -1,7 +1,7 @@
 -- In every world: where a client's pub lines rise and no publish of it was refused, each receipt is of a message that stands.
 use Rattle.std.proofs.Common.{◌≡◌, ℕ, zero, suc, ◌*◌, ◌<◌, ◌≤◌, Bool, true, false, List, [], ◌∷◌, length, map, refl, sym, ap, subst, ◌∙◌, arith, inl, inr}
 use Rattle.std.specs.List.{list_all}
-use Rattle.std.specs.Prelude.{Option, Some, None, ◌&&◌, nat_lt, option_map, slice_get}
+use Rattle.std.specs.Prelude.{Option, Some, None, nat_lt, option_map, slice_get}
 use Rattle.std.specs.Str.{bytes_eq}
 use Rattle.std.proofs.lemmas.Bool.{false≢true}
 use Rattle.std.proofs.lemmas.List.{get_or-map, get_or-replicate}
@@ -51,6 +51,7 @@ use Rattle.world_laws.proofs.Snapshotting.Grows.{grown_written}
 use Rattle.world_laws.proofs.TopicOrder.Ledgers.{at_index}
 use Rattle.world_laws.proofs.Walks.EventWalk.{HasShape, planned_shape}
 use Rattle.world_laws.proofs.Walks.Walk.{on_if}
+use Rattle.geo_base.proofs.Bools.{and_first_of_five}
 
 -- of each client whose lines rise, while none of its publishes was refused
 abbrev pub InTurnAll : Setup → World → Type 0
@@ -61,13 +62,10 @@ InTurnAll s w = (c : ℕ) → c < length s.clients → PubsRise (declared_at s c
 name_at : (s : Setup) (c : ℕ) → c < length s.clients → slice_get (map (λ (d : Declared). d.name) s.clients) c ≡ Some (declared_at s c).name
 name_at s c lt = slice_get-map (λ (d : Declared). d.name) s.clients c ∙ ap (option_map (λ (d : Declared). d.name)) (slice_get-get_or s.clients c nobody lt)
 
-first_of : (a b c d e : Bool) → (a && b && c && d && e) ≡ true → a ≡ true
-first_of a b c d e h = grind (arith, h)
-
 names_apart : (s : Setup) (c : ℕ) → IsScripted s → c < length s.clients → NamesApart s c
 names_apart s c scripted lt = record {
   named = let d = declared_at s c in
-      first_of (is_name d.name) (nat_lt d.topic (length s.topics)) (nat_lt d.cluster (length s.clusters)) (list_all (is_line s) d.lines) (stays_or_is_silent d.lines) (all_index (is_declared s) s.clients c nobody scripted.clients.0 lt);
+      and_first_of_five (is_name d.name) (nat_lt d.topic (length s.topics)) (nat_lt d.cluster (length s.clusters)) (list_all (is_line s) d.lines) (stays_or_is_silent d.lines) (all_index (is_declared s) s.clients c nobody scripted.clients.0 lt);
   apart = λ z other small. elim (below_or z c) [
     | inl low ↦ scripted.clients.1 z c _ _ low (name_at s z small) (name_at s c lt)
     | inr high ↦

@@ -172,8 +172,8 @@ reads_aside d c W h b y q named (Reads.Counts i e id answer u u' next is heard) 
 reads_aside d c W h b y q named (Reads.AsksAgain i e id answer u u' next is heard) = record { others = (marker_other d named (h.own == d.cluster), tt); keeps = (tt, (tt, tt)); quiet = tt }
 reads_aside d c W h b y q named (Reads.Completes i e id answer u u' next is heard) = record { others = (marker_other d named (h.own == d.cluster), tt); keeps = (tt, (tt, tt)); quiet = tt }
 reads_aside d c W h b y q named (Reads.CreatesAt i j e n remote next is absent) = record { others = tt; keeps = (tt, (tt, tt)); quiet = tt }
-reads_aside d c W h b y q named (Reads.PassesOver i j e n remote v ws next is there after) = record {
-  others = subst (Each (IsOther d)) (sym (appended_both ws (write.SenderAck y i ∷ []))) (each_both (IsOther d) (appended ws) [] (updates_aside d h b _ ws named after) tt);
+reads_aside d c W h b y q named (Reads.ActsOnUpdate i j e n remote v ws next is there after) = record {
+  others = subst (Each (IsOther d)) (sym (appended_both ws (write.ReplicatorAck y i ∷ []))) (each_both (IsOther d) (appended ws) [] (updates_aside d h b _ ws named after) tt);
   keeps = (tt, (tt, tt));
   quiet = tt;
 }
@@ -185,7 +185,7 @@ snaps_aside d c W h b q named (Snaps.Asks any none) = record { others = (marker_
 pub offers_aside : (d : Declared) (c : ℕ) (W : ℕ → Type 0) (h : Site) (b : Broker) (n : List ℕ) (q : Plan) → is_name d.name ≡ true → Offers h b n q → Aside d c W q
 offers_aside d c W h b n q named Offers.NothingToOffer = record { others = tt; keeps = tt; quiet = tt }
 offers_aside d c W h b n q named (Offers.Gives v i at e due is picked) = record { others = tt; keeps = (tt, tt); quiet = (tt, tt) }
-offers_aside d c W h b n q named (Offers.PassesBy v i e ws due is after) = record { others = updates_aside d h b _ ws named after; keeps = (tt, (tt, tt)); quiet = tt }
+offers_aside d c W h b n q named (Offers.SkipsMarker v i e ws due is after) = record { others = updates_aside d h b _ ws named after; keeps = (tt, (tt, tt)); quiet = tt }
 offers_aside d c W h b n q named (Offers.Caches v i j e k ws due is after) = record { others = updates_aside d h b _ ws named after; keeps = (tt, (tt, (tt, tt))); quiet = tt }
 
 pub seeks_aside : (d : Declared) (c : ℕ) (W : ℕ → Type 0) (h : Site) (b : Broker) (n : List ℕ) (to : Option Position) (q : Plan) → is_name d.name ≡ true → Seeks h b n to q → Aside d c W q

@@ -88,7 +88,7 @@ at_home s c w p = by (p.topic == (declared_at s c).topic) refl (p.cluster == (de
 home_same : (s : Setup) (c : ℕ) (w : World) (p : Planned) → AtHome s c w p → topic_at s w p.topic p.cluster ≡ home_of s w c
 home_same s c w p h = ap (λ (t : ℕ). topic_at s w t p.cluster) h.topic ∙ ap (λ (x : ℕ). topic_at s w (declared_at s c).topic x) h.cluster
 
--- the broker behind it
+-- the broker after it
 pub set_home : (s : Setup) (c : ℕ) (w : World) (p : Planned) (f : Broker → Broker) → IsScripted s → c < length s.clients → Chained s w → AtHome s c w p
     → home_of s (record w { brokers = slice_set w.brokers (node s p.topic p.cluster) (f (topic_at s w p.topic p.cluster)) }) c ≡ f (home_of s w c)
 set_home s c w p f scripted lt g h =

@@ -6,7 +6,7 @@ use Rattle.std.proofs.lemmas.Bool.{eq-eqb, eqb-true, false≢true}
 use Rattle.std.proofs.lemmas.List.Folds.{list_any-append}
 use Rattle.std.proofs.lemmas.List.{append-nil, append_assoc}
 use Rattle.std.proofs.lemmas.Option.{none-some, same_Some, slice_get_within}
-use Rattle.world_laws.proofs.Types.{Entry, Frame, Out, Packet, Place}
+use Rattle.world_laws.proofs.Types.{Entry, Frame, Out, Packet, ClusterRef}
 use Rattle.world_laws.proofs.Types.frame
 use Rattle.geo_base.specs.Client.{Client}
 use Rattle.geo_base.specs.Getting.{publishes, seq_of, without_seq}
@@ -226,7 +226,7 @@ abbrev IsSending : Frame → Type 0
 IsSending (frame.Send id seq source e) = Unit {0}
 IsSending f = ⊥
 
-pub no_connect : (id seq : ℕ) (source : Option Place) (e : Entry) → frame.Send id seq source e ≡ frame.Connect → ⊥
+pub no_connect : (id seq : ℕ) (source : Option ClusterRef) (e : Entry) → frame.Send id seq source e ≡ frame.Connect → ⊥
 no_connect id seq source e is = subst IsSending is tt
 
 pub turns_plain : (d : Declared) (es : List Entry) (us : List Packet) (stamp : ℕ) (os : List Out) → Each (λ (o : Out). IsPlain o.frame) os → Turns d es us → Turns d es (us ++ map (stamped stamp) os)

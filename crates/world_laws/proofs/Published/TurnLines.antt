@@ -8,7 +8,7 @@ use Rattle.world_laws.proofs.Types.{Entry, Frame, Held, Ident, Line, Out, Packet
 use Rattle.world_laws.proofs.Types.frame
 use Rattle.world_laws.proofs.Types.line
 use Rattle.world_laws.proofs.Types.peer
-use Rattle.world_laws.proofs.Types.place
+use Rattle.world_laws.proofs.Types.cluster_ref
 use Rattle.geo_base.specs.Client.{Acted, Client, becomes, command, command_at, commands_at, connected_to, connects, id_of, new_client, published, reconnect, stays, unconnected}
 use Rattle.geo_base.specs.Entry.{with_origin}
 use Rattle.geo_base.specs.Getting.{answered, get, got_frame, is_duplicate, is_number, publishes, received, seq_of, with_error, with_receipt, without_seq}
@@ -192,8 +192,8 @@ frame_hand d es us k session (frame.SendReceipt id n o) stands fine h = answered
 frame_hand d es us k session (frame.SendError id n code) stands fine h = absurd fine
 frame_hand d es us k session (frame.Error request code) stands fine h = h
 frame_hand d es us k session (frame.Message id p None e) stands fine h = received_hand d es us k id (with_origin k.cluster e).ident p h
-frame_hand d es us k session (frame.Message id p (Some (place.Known x)) e) stands fine h = received_hand d es us k id (with_origin x e).ident p h
-frame_hand d es us k session (frame.Message id p (Some (place.Stranger name)) e) stands fine h = h
+frame_hand d es us k session (frame.Message id p (Some (cluster_ref.Known x)) e) stands fine h = received_hand d es us k id (with_origin x e).ident p h
+frame_hand d es us k session (frame.Message id p (Some (cluster_ref.Stranger name)) e) stands fine h = h
 frame_hand d es us k session f stands fine h = h
 
 pub get_hand : (d : Declared) (es : List Entry) (us : List Packet) (k : Client) (o : Option Packet) → ((q : Packet) → o ≡ Some q → ReceiptStands d es q.session q.frame × IsNoError q.session q.frame) → HandOf d es us k
@@ -226,8 +226,8 @@ frame_away d es us k (frame.SendReceipt id n o) none h = by (is_duplicate o)
 frame_away d es us k (frame.SendError id n code) none h = none_answered d es us k n (with_error k) none h h
 frame_away d es us k (frame.Error request code) none h = h
 frame_away d es us k (frame.Message id p None e) none h = received_hand d es us k id (with_origin k.cluster e).ident p h
-frame_away d es us k (frame.Message id p (Some (place.Known x)) e) none h = received_hand d es us k id (with_origin x e).ident p h
-frame_away d es us k (frame.Message id p (Some (place.Stranger name)) e) none h = h
+frame_away d es us k (frame.Message id p (Some (cluster_ref.Known x)) e) none h = received_hand d es us k id (with_origin x e).ident p h
+frame_away d es us k (frame.Message id p (Some (cluster_ref.Stranger name)) e) none h = h
 frame_away d es us k f none h = h
 
 pub get_away : (d : Declared) (es : List Entry) (us : List Packet) (k : Client) (o : Option Packet) → k.unanswered ≡ [] → HandOf d es us k → HandOf d es us (get d k o).client

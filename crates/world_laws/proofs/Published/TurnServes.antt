@@ -4,7 +4,7 @@ use Rattle.std.specs.Prelude.{Option, Some, None, if◌then◌else◌, slice_get
 use Rattle.std.proofs.lemmas.Bool.{eqb-true, false≢true}
 use Rattle.std.proofs.lemmas.List.{append-nil}
 use Rattle.std.proofs.lemmas.Option.{none-some, same_Some}
-use Rattle.world_laws.proofs.Types.{Entry, Frame, Ident, Out, Packet, Peer, Place, Session}
+use Rattle.world_laws.proofs.Types.{Entry, Frame, Ident, Out, Packet, Peer, ClusterRef, Session}
 use Rattle.world_laws.proofs.Types.frame
 use Rattle.world_laws.proofs.Types.peer
 use Rattle.world_laws.proofs.Types.write
@@ -14,7 +14,7 @@ use Rattle.geo_base.specs.Entry.{with_origin}
 use Rattle.geo_base.specs.Getting.{seq_of}
 use Rattle.geo_base.specs.Name.{is_name}
 use Rattle.geo_base.specs.Plan.{Plan, quiet_plan}
-use Rattle.geo_base.specs.Position.{nowhere}
+use Rattle.geo_base.specs.Position.{no_position}
 use Rattle.geo_base.specs.Producing.{is_sound, name_with, serve_send, stores}
 use Rattle.geo_base.specs.Serving.{serve_command, serve_frame}
 use Rattle.geo_base.specs.Setup.{Declared, Setup, declared_at}
@@ -32,17 +32,17 @@ use Rattle.world_laws.proofs.Walks.Walk.{on_test}
 
 pub data SendServed (h : Site) (b : Broker) (c : ℕ) (p : Packet) : Plan → Type 0 where
   Refuses : (v : Session) (id seq code : ℕ) → SendServed h b c p (answers c v (frame.SendError id seq code))
-  Takes : (v : Session) (id seq : ℕ) (source : Option Place) (e : Entry) (n : List ℕ) → InSession b c p v → p.frame ≡ frame.Send id seq source e → is_sound h n seq source e ≡ true
+  Takes : (v : Session) (id seq : ℕ) (source : Option ClusterRef) (e : Entry) (n : List ℕ) → InSession b c p v → p.frame ≡ frame.Send id seq source e → is_sound h n seq source e ≡ true
       → SendServed h b c p (stores h b c v id seq (with_origin h.own e))
   Else : (q : Plan) → ((v : Session) (z : ℕ) → InSession b c p v → Asks z p.frame → ⊥) → SendServed h b c p q
 
-named_send : (h : Site) (b : Broker) (c : ℕ) (p : Packet) (v : Session) (id seq : ℕ) (source : Option Place) (e : Entry) (n : Option (List ℕ)) → InSession b c p v → p.frame ≡ frame.Send id seq source e
+named_send : (h : Site) (b : Broker) (c : ℕ) (p : Packet) (v : Session) (id seq : ℕ) (source : Option ClusterRef) (e : Entry) (n : Option (List ℕ)) → InSession b c p v → p.frame ≡ frame.Send id seq source e
     → SendServed h b c p (serve_send h b c v id seq source e n)
 named_send h b c p v id seq source e None at is = SendServed.Refuses v id seq unknown_error
 named_send h b c p v id seq source e (Some n) at is =
     on_test (SendServed h b c p) (is_sound h n seq source e) _ _ (λ sound. SendServed.Takes v id seq source e n at is sound) (λ unsound. SendServed.Refuses v id seq unknown_error)
 
-send_of : (h : Site) (b : Broker) (c : ℕ) (p : Packet) (id seq : ℕ) (source : Option Place) (e : Entry) → p.frame ≡ frame.Send id seq source e → SendServed h b c p (serve_frame h b c p (frame.Send id seq source e))
+send_of : (h : Site) (b : Broker) (c : ℕ) (p : Packet) (id seq : ℕ) (source : Option ClusterRef) (e : Entry) → p.frame ≡ frame.Send id seq source e → SendServed h b c p (serve_frame h b c p (frame.Send id seq source e))
 send_of h b c p id seq source e is = by (session_at b c) refl
   where
     found : (v : Session) → session_at b c ≡ Some v → (t : Bool) → (v.number == p.session) ≡ t → SendServed h b c p (if t then serve_command h b c v p.frame else quiet_plan [])
@@ -134,7 +134,7 @@ take_none zero = refl
 take_none (suc k) = refl
 
 -- a SEND that may be stored is stored, or stood before
-takes_leaves : (s : Setup) (c : ℕ) (b : Broker) (us : List Packet) (taken : ℕ) (p : Packet) (v : Session) (id seq : ℕ) (source : Option Place) (e : Entry) (n : List ℕ) → let d = declared_at s c in let h = site s d.topic d.cluster in
+takes_leaves : (s : Setup) (c : ℕ) (b : Broker) (us : List Packet) (taken : ℕ) (p : Packet) (v : Session) (id seq : ℕ) (source : Option ClusterRef) (e : Entry) (n : List ℕ) → let d = declared_at s c in let h = site s d.topic d.cluster in
     InSession b c p v → p.frame ≡ frame.Send id seq source e → is_sound h n seq source e ≡ true → Publishes s c d.cluster p.session p.frame
     → Turns d b.entries us → AllOpen d b.entries (session_at b c) us taken → AllBelow d b.entries → slice_get us taken ≡ Some p → Leaves d c b p (stores h b c v id seq (with_origin d.cluster e))
 takes_leaves s c b us taken p v id seq source e n at is sound pubs turns begins below next = by (accepts b.entries (with_origin d.cluster e).ident) refl
@@ -164,7 +164,7 @@ takes_leaves s c b us taken p v id seq source e n at is sound pubs turns begins 
     same_seq z asks = subst (Asks z) is asks
 
     plan : Bool → Plan
-    plan a = record { idle = false; writes = if a then write.Append e' ∷ [] else []; changes = []; sent = record { to = peer.Client c; session = v.number; frame = frame.SendReceipt id seq (Some (if a then next_position h.per_ledger b.ledgers else nowhere)) } ∷ [] }
+    plan a = record { idle = false; writes = if a then write.Append e' ∷ [] else []; changes = []; sent = record { to = peer.Client c; session = v.number; frame = frame.SendReceipt id seq (Some (if a then next_position h.per_ledger b.ledgers else no_position)) } ∷ [] }
 
     has : (a : Bool) → accepts b.entries e'.ident ≡ a → HasSeq d (b.entries ++ appended (plan a).writes) seq
     has true new = has_stored d b.entries e' seq sent.named

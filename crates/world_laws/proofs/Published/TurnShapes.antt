@@ -1,6 +1,6 @@
 -- Whether an event of a broker serves a packet of client c where c is declared, shape by shape; else it leaves c's publishes alone.
-use Rattle.std.proofs.Common.{◌≡◌, ◌==◌, ℕ, ◌<◌, Bool, true, false, [], length, refl, sym, ap, subst, ◌∙◌, inl, inr, ◌⊎◌}
-use Rattle.std.specs.Prelude.{Option, Some, None, ◌&&◌}
+use Rattle.std.proofs.Common.{◌≡◌, ◌==◌, ℕ, ◌<◌, true, false, [], length, refl, sym, ap, subst, ◌∙◌, inl, inr, ◌⊎◌}
+use Rattle.std.specs.Prelude.{Option, Some, None}
 use Rattle.std.specs.Str.{bytes_eq}
 use Rattle.std.proofs.lemmas.Bool.{eq-eqb, eqb-true, false≢true, ltb-true}
 use Rattle.world_laws.proofs.Types.{Event, Packet}
@@ -28,6 +28,7 @@ use Rattle.world_laws.proofs.TopicOrder.NoSelf.{NoSelf}
 use Rattle.world_laws.proofs.Walks.EventWalk.{of_target}
 use Rattle.world_laws.proofs.Walks.Shapes.{Served, Shape}
 use Rattle.world_laws.proofs.Walks.Walk.{left, on_if, right}
+pub use Rattle.geo_base.proofs.Bools.{and_of_both as and_true}
 
 -- ---- what is known of client c
 
@@ -46,11 +47,6 @@ pub record NamesApart (s : Setup) (c : ℕ) : Type 0 where
   pub apart : (z : ℕ) → (z ≡ c → ⊥) → z < length s.clients → bytes_eq (declared_at s z).name (declared_at s c).name ≡ false
 
 -- ---- whether the event serves c at home
-
-pub and_true : (a b : Bool) → a ≡ true → b ≡ true → (a && b) ≡ true
-and_true true true p q = refl
-and_true false b p q = p
-and_true true false p q = q
 
 -- it leaves c's publishes alone
 pub shape_aside : (s : Setup) (w : World) (c : ℕ) (W : ℕ → Type 0) (p : Planned) → Shape s w p → NoSelf s w → AllPublish s w → NamesApart s c → p.cluster ≡ (declared_at s c).cluster

@@ -1,23 +1,12 @@
--- A sender's cursor: what it has after one more index, and what the next index to read tells.
+-- A replicator's cursor: what it has after one more index, and what the next index to read tells.
 use Rattle.std.proofs.Common.{◌≡◌, ℕ, zero, suc, ◌+◌, ◌<◌, ◌≤◌, Bool, true, false, List, [], ◌∷◌, refl, sym, ap, ◌∙◌, ◌==◌, arith, inl, inr, ◌⊎◌}
-use Rattle.std.specs.Prelude.{Some, if◌then◌else◌, ◌||◌, nat_lt}
+use Rattle.std.specs.Prelude.{Some, if◌then◌else◌, nat_lt}
 use Rattle.std.proofs.lemmas.Bool.{eqb-true, eq-eqb, false≢true}
 use Rattle.std.proofs.lemmas.Bool.Decides.{nat_tests}
 use Rattle.std.proofs.lemmas.Option.{none-some, same_Some}
 use Rattle.geo_base.specs.Cursor.{has, next_open, with_index}
 use Rattle.world_laws.proofs.Walks.Walk.{on_if, on_test}
-
-pub or_left : (a b : Bool) → a ≡ true → (a || b) ≡ true
-or_left true b h = refl
-or_left false b h = absurd (false≢true h)
-
-pub or_right : (a b : Bool) → b ≡ true → (a || b) ≡ true
-or_right true b h = refl
-or_right false b h = h
-
-pub either : (a b : Bool) → (a || b) ≡ true → (a ≡ true) ⊎ (b ≡ true)
-either true b h = inl refl
-either false b h = inr h
+pub use Rattle.geo_base.proofs.Bools.{or_cases as either, or_of_first as or_left, or_of_second as or_right}
 
 -- one more index leaves those that are there
 pub has_more : (set : List ℕ) (i j : ℕ) → has set j ≡ true → has (with_index set i) j ≡ true

@@ -3,12 +3,12 @@ use Rattle.std.proofs.Common.{◌≡◌, ℕ, zero, suc, List, [], ◌∷◌, �
 use Rattle.std.specs.Prelude.{slice_set, slice_index_or}
 use Rattle.world_laws.proofs.Types.{Change, Packet, Write}
 use Rattle.world_laws.proofs.Types.change
-use Rattle.world_laws.proofs.Types.sender_state
+use Rattle.world_laws.proofs.Types.replicator_state
 use Rattle.world_laws.proofs.Types.write
-use Rattle.geo_base.specs.Broker.{Broker, Site, at_sender, changed, written}
+use Rattle.geo_base.specs.Broker.{Broker, Site, at_replicator, changed, written}
 use Rattle.geo_base.specs.Cursor.{with_index}
 use Rattle.geo_base.specs.Plan.{Plan, all_changed, all_written, done}
-use Rattle.geo_base.specs.Sender.{Sender, new_sender, without_number}
+use Rattle.geo_base.specs.Replicator.{Replicator, new_replicator, without_number}
 use Rattle.world_laws.proofs.Replicating.Effects.{Each}
 use Rattle.world_laws.proofs.Walks.Shapes.{Answered, Taken, in_a_row}
 
@@ -77,16 +77,16 @@ pub taken_in_a_row : (per : ℕ) (h : Site) (b c : Broker) (x : ℕ) (p : Packet
 taken_in_a_row per h b c x p q q' t t' d =
     row_done per IsSessionChange IsAppend (take_swaps per) d q q' (taken_changes h b x p q t) (taken_writes h c x p q' t')
 
--- receipt: the cursor of a sender, and its memory
-at_twice : (f g : Sender → Sender) → ((s : Sender) → f (g s) ≡ g (f s)) → (ss : List Sender) (z : ℕ)
-    → slice_set (slice_set ss z (g (slice_index_or ss z new_sender))) z (f (slice_index_or (slice_set ss z (g (slice_index_or ss z new_sender))) z new_sender))
-    ≡ slice_set (slice_set ss z (f (slice_index_or ss z new_sender))) z (g (slice_index_or (slice_set ss z (f (slice_index_or ss z new_sender))) z new_sender))
+-- receipt: the cursor of a replicator, and its memory
+at_twice : (f g : Replicator → Replicator) → ((s : Replicator) → f (g s) ≡ g (f s)) → (ss : List Replicator) (z : ℕ)
+    → slice_set (slice_set ss z (g (slice_index_or ss z new_replicator))) z (f (slice_index_or (slice_set ss z (g (slice_index_or ss z new_replicator))) z new_replicator))
+    ≡ slice_set (slice_set ss z (f (slice_index_or ss z new_replicator))) z (g (slice_index_or (slice_set ss z (f (slice_index_or ss z new_replicator))) z new_replicator))
 at_twice f g h [] z = refl
-at_twice f g h (s ∷ ss) zero = ap (λ (t : Sender). t ∷ ss) (h s)
-at_twice f g h (s ∷ ss) (suc z) = ap (λ (l : List Sender). s ∷ l) (at_twice f g h ss z)
+at_twice f g h (s ∷ ss) zero = ap (λ (t : Replicator). t ∷ ss) (h s)
+at_twice f g h (s ∷ ss) (suc z) = ap (λ (l : List Replicator). s ∷ l) (at_twice f g h ss z)
 
-sender_swaps : (b : Broker) (z : ℕ) (f g : Sender → Sender) → ((s : Sender) → f (g s) ≡ g (f s)) → at_sender (at_sender b z g) z f ≡ at_sender (at_sender b z f) z g
-sender_swaps b z f g h = ap (λ (ss : List Sender). record b { senders = ss }) (at_twice f g h b.senders z)
+replicator_swaps : (b : Broker) (z : ℕ) (f g : Replicator → Replicator) → ((s : Replicator) → f (g s) ≡ g (f s)) → at_replicator (at_replicator b z g) z f ≡ at_replicator (at_replicator b z f) z g
+replicator_swaps b z f g h = ap (λ (ss : List Replicator). record b { replicators = ss }) (at_twice f g h b.replicators z)
 
 abbrev IsMemoryOf : ℕ → Change → Type 0
 IsMemoryOf y (change.Opened z) = z ≡ y
@@ -94,16 +94,16 @@ IsMemoryOf y (change.Unpend z n) = z ≡ y
 IsMemoryOf y c = ⊥
 
 abbrev IsAckOf : ℕ → Write → Type 0
-IsAckOf y (write.SenderAck z i) = z ≡ y
+IsAckOf y (write.ReplicatorAck z i) = z ≡ y
 IsAckOf y w = ⊥
 
 memory_swaps : (per y : ℕ) (c : Change) (w : Write) → IsMemoryOf y c → IsAckOf y w → Swaps per c w
-memory_swaps per y (change.Opened z) (write.SenderAck v i) h k b =
-    let P : ℕ → Type 0 = λ n. changed (written per b (write.SenderAck n i)) (change.Opened z) ≡ written per (changed b (change.Opened z)) (write.SenderAck n i) in
-    subst P (h ∙ sym k) (sender_swaps b z (λ s. record s { state = sender_state.Open }) (λ s. record s { cursor = with_index s.cursor i }) (λ s. refl))
-memory_swaps per y (change.Unpend z n) (write.SenderAck v i) h k b =
-    let P : ℕ → Type 0 = λ m. changed (written per b (write.SenderAck m i)) (change.Unpend z n) ≡ written per (changed b (change.Unpend z n)) (write.SenderAck m i) in
-    subst P (h ∙ sym k) (sender_swaps b z (λ s. record s { pending = without_number s.pending n }) (λ s. record s { cursor = with_index s.cursor i }) (λ s. refl))
+memory_swaps per y (change.Opened z) (write.ReplicatorAck v i) h k b =
+    let P : ℕ → Type 0 = λ n. changed (written per b (write.ReplicatorAck n i)) (change.Opened z) ≡ written per (changed b (change.Opened z)) (write.ReplicatorAck n i) in
+    subst P (h ∙ sym k) (replicator_swaps b z (λ s. record s { state = replicator_state.Open }) (λ s. record s { cursor = with_index s.cursor i }) (λ s. refl))
+memory_swaps per y (change.Unpend z n) (write.ReplicatorAck v i) h k b =
+    let P : ℕ → Type 0 = λ m. changed (written per b (write.ReplicatorAck m i)) (change.Unpend z n) ≡ written per (changed b (change.Unpend z n)) (write.ReplicatorAck m i) in
+    subst P (h ∙ sym k) (replicator_swaps b z (λ s. record s { pending = without_number s.pending n }) (λ s. record s { cursor = with_index s.cursor i }) (λ s. refl))
 memory_swaps per y (change.Opened z) w h k b = absurd k
 memory_swaps per y (change.Unpend z n) w h k b = absurd k
 memory_swaps per y c w h k b = absurd h

@@ -3,7 +3,7 @@ use Rattle.std.proofs.Common.{◌≡◌, ℕ, zero, ◌<◌, Bool, true, false, 
 use Rattle.std.specs.Prelude.{Option, Some, slice_get}
 use Rattle.std.proofs.lemmas.Bool.{false≢true}
 use Rattle.std.proofs.lemmas.Option.{same_Some}
-use Rattle.world_laws.proofs.Types.{Entry, Frame, Packet, Place, Position}
+use Rattle.world_laws.proofs.Types.{Entry, Frame, Packet, ClusterRef, Position}
 use Rattle.world_laws.proofs.Types.frame
 use Rattle.world_laws.proofs.OnceInOrder.Members.{get_push, get_left}
 
@@ -11,7 +11,7 @@ use Rattle.world_laws.proofs.OnceInOrder.Members.{get_push, get_left}
 pub record Carries (p : Packet) (m k : ℕ) (e : Entry) : Type 0 where
   pub session : p.session ≡ m
   pub id : ℕ
-  pub source : Option Place
+  pub source : Option ClusterRef
   pub is : p.frame ≡ frame.Send id k source e
 
 -- the packet at a place of a link does
@@ -116,5 +116,5 @@ last_receipt back p a m k s =
     ]
 
 -- two packets at one place are one
-pub same_place : (sent : List Packet) (q : ℕ) (p r : Packet) → slice_get sent q ≡ Some p → slice_get sent q ≡ Some r → p ≡ r
-same_place sent q p r a b = same_Some _ _ (sym a ∙ b)
+pub same_cluster_ref : (sent : List Packet) (q : ℕ) (p r : Packet) → slice_get sent q ≡ Some p → slice_get sent q ≡ Some r → p ≡ r
+same_cluster_ref sent q p r a b = same_Some _ _ (sym a ∙ b)

@@ -7,7 +7,7 @@ use Rattle.world_laws.proofs.Types.change
 use Rattle.world_laws.proofs.Types.frame
 use Rattle.world_laws.proofs.Types.peer
 use Rattle.world_laws.proofs.Types.write
-use Rattle.geo_base.specs.Broker.{Broker, sender_at}
+use Rattle.geo_base.specs.Broker.{Broker, replicator_at}
 use Rattle.geo_base.specs.Forwarding.{closes, link_producer, resets}
 use Rattle.geo_base.specs.Link.{Link, next_packet, sent_on}
 use Rattle.geo_base.specs.Plan.{Plan, done, halted, idle_plan, quiet_plan}
@@ -25,8 +25,8 @@ use Rattle.world_laws.proofs.Replicating.PairRoles.{AtSource, PairIn, source_aga
 use Rattle.world_laws.proofs.Replicating.Prefixes.{is_of}
 use Rattle.world_laws.proofs.Replicating.Reach.{IncomingChange, IncomingOut, IncomingPeer, IncomingWrite, Outgoing, OutgoingChange, OutgoingOut, OutgoingPeer, OutgoingWrite, fated_in, fated_out, offers_out, reads_out, resets_out, seeks_out, served_out, snaps_out}
 use Rattle.world_laws.proofs.Replicating.ReceiverSide.{Extends, LeavesSession, OfOther, others_extend}
-use Rattle.world_laws.proofs.Replicating.SenderEvents.{reset_done, reset_halted}
-use Rattle.world_laws.proofs.Replicating.SenderSide.{Facts, facts_halted}
+use Rattle.world_laws.proofs.Replicating.ReplicatorEvents.{reset_done, reset_halted}
+use Rattle.world_laws.proofs.Replicating.ReplicatorSide.{Facts, facts_halted}
 use Rattle.world_laws.proofs.Walks.Shapes.{Answered, Fated, Reads, Shape, Taken}
 use Rattle.world_laws.proofs.Replicating.TakeEvents.{fated_extends}
 
@@ -36,22 +36,22 @@ SourceOf s w p y =
     AtSource p.cluster y s.per_ledger (topic_at s w p.topic p.cluster) (topic_at s w p.topic y) (link_at w.links (Forward (node s p.topic p.cluster) y))
     (link_at w.links (Back (node s p.topic p.cluster) y)).sent p.plan
 
-abbrev HasSender : Setup → World → Planned → ℕ → Type 0
-HasSender s w p y = y < length (topic_at s w p.topic p.cluster).senders
+abbrev HasReplicator : Setup → World → Planned → ℕ → Type 0
+HasReplicator s w p y = y < length (topic_at s w p.topic p.cluster).replicators
 
 reset_source : (s : Setup) (w : World) (t x y z : ℕ) (k : Option LinkName) → (b : Bool) → (z == y) ≡ b
-    → HasSender s w (record { topic = t; cluster = x; takes = k; plan = resets (site s t x) z ((sender_at (topic_at s w t x) z).session + 1) }) y
-    → PairIn s w t x y → SourceOf s w (record { topic = t; cluster = x; takes = k; plan = resets (site s t x) z ((sender_at (topic_at s w t x) z).session + 1) }) y
+    → HasReplicator s w (record { topic = t; cluster = x; takes = k; plan = resets (site s t x) z ((replicator_at (topic_at s w t x) z).session + 1) }) y
+    → PairIn s w t x y → SourceOf s w (record { topic = t; cluster = x; takes = k; plan = resets (site s t x) z ((replicator_at (topic_at s w t x) z).session + 1) }) y
 reset_source s w t x y z k true e lt facts =
-    AtSource.Resets (site s t x) (ap (λ (n : ℕ). resets (site s t x) n ((sender_at (topic_at s w t x) n).session + 1)) (eqb-true z y e))
+    AtSource.Resets (site s t x) (ap (λ (n : ℕ). resets (site s t x) n ((replicator_at (topic_at s w t x) n).session + 1)) (eqb-true z y e))
 reset_source s w t x y z k false e lt facts =
     source_out x y x z s.per_ledger (topic_at s w t x) (topic_at s w t y) (link_at w.links (Forward (node s t x) y)) (link_at w.links (Back (node s t x) y)).sent _ lt
     (eqb-false z y e) (resets_out (site s t x) x z _) facts
 
 read_source : (s : Setup) (w : World) (t x y z : ℕ) (plan : Plan) → (b : Bool) → (z == y) ≡ b → Reads (site s t x) (topic_at s w t x) z plan
-    → y < length (topic_at s w t x).senders → PairIn s w t x y → SourceOf s w (record { topic = t; cluster = x; takes = None; plan = plan }) y
+    → y < length (topic_at s w t x).replicators → PairIn s w t x y → SourceOf s w (record { topic = t; cluster = x; takes = None; plan = plan }) y
 read_source s w t x y z plan true e reads =
-    let Q : ℕ → Type 0 = λ n. n < length (topic_at s w t x).senders → PairIn s w t x n → SourceOf s w (record { topic = t; cluster = x; takes = None; plan = plan }) n in
+    let Q : ℕ → Type 0 = λ n. n < length (topic_at s w t x).replicators → PairIn s w t x n → SourceOf s w (record { topic = t; cluster = x; takes = None; plan = plan }) n in
     subst Q (eqb-true z y e) (λ lt facts. source_reads z s.per_ledger (site s t x) _ _ _ _ plan lt reads facts)
 read_source s w t x y z plan false e reads = λ lt facts.
     source_out x y x z s.per_ledger (topic_at s w t x) (topic_at s w t y) (link_at w.links (Forward (node s t x) y)) (link_at w.links (Back (node s t x) y)).sent plan lt
@@ -59,9 +59,9 @@ read_source s w t x y z plan false e reads = λ lt facts.
 
 receipt_source : (s : Setup) (w : World) (t x y z : ℕ) (k : Option LinkName) (q : Packet) (plan : Plan) → (b : Bool) → (z == y) ≡ b
     → next_packet (link_at w.links (Back (node s t x) z)) ≡ Some q → Fated s.per_ledger (topic_at s w t x) (λ b. Answered b z q) (quiet_plan []) plan
-    → y < length (topic_at s w t x).senders → PairIn s w t x y → SourceOf s w (record { topic = t; cluster = x; takes = k; plan = plan }) y
+    → y < length (topic_at s w t x).replicators → PairIn s w t x y → SourceOf s w (record { topic = t; cluster = x; takes = k; plan = plan }) y
 receipt_source s w t x y z k q plan true e next answered =
-    let Q : ℕ → Type 0 = λ n. n < length (topic_at s w t x).senders → PairIn s w t x n → SourceOf s w (record { topic = t; cluster = x; takes = k; plan = plan }) n in
+    let Q : ℕ → Type 0 = λ n. n < length (topic_at s w t x).replicators → PairIn s w t x n → SourceOf s w (record { topic = t; cluster = x; takes = k; plan = plan }) n in
     let l = link_at w.links (Back (node s t x) z) in
     let came : Stands l.sent q = record { place = l.taken; is = next } in
     subst Q (eqb-true z y e) (λ lt facts. source_answered x z s.per_ledger _ _ _ _ q plan lt came answered facts)
@@ -69,7 +69,7 @@ receipt_source s w t x y z k q plan false e next answered = λ lt facts.
     source_out x y x z s.per_ledger (topic_at s w t x) (topic_at s w t y) (link_at w.links (Forward (node s t x) y)) (link_at w.links (Back (node s t x) y)).sent plan lt
     (eqb-false z y e) (fated_out s.per_ledger (topic_at s w t x) x z q plan answered) facts
 
-pub source_role : (s : Setup) (w : World) (p : Planned) → Shape s w p → (y : ℕ) → (p.cluster ≡ y → ⊥) → HasSender s w p y → PairIn s w p.topic p.cluster y
+pub source_role : (s : Setup) (w : World) (p : Planned) → Shape s w p → (y : ℕ) → (p.cluster ≡ y → ⊥) → HasReplicator s w p y → PairIn s w p.topic p.cluster y
     → SourceOf s w p y
 source_role s w p (Shape.Idle t x within) y other lt facts = source_idle x y s.per_ledger _ _ _ _ facts
 source_role s w p (Shape.Empty t x k within next) y other lt facts = source_idle x y s.per_ledger _ _ _ _ facts
@@ -91,18 +91,18 @@ source_role s w p (Shape.Seek t x n to plan within seeks) y other lt facts =
 source_role s w p (Shape.Restart t x within) y other lt facts = source_again x y s.per_ledger _ _ _ _ lt facts
 
 -- what an event at the source leaves, sent and all
-pub source_does : (x y per : ℕ) (a b : Broker) (f : Link) (back : List Packet) (p : Plan) (stamp : ℕ) → y < length a.senders → AtSource x y per a b f back p
+pub source_does : (x y per : ℕ) (a b : Broker) (f : Link) (back : List Packet) (p : Plan) (stamp : ℕ) → y < length a.replicators → AtSource x y per a b f back p
     → Facts x y a b f back → Facts x y (done per a p) b (pushed y stamp f p.sent) back
 source_does x y per a b f back p stamp lt (AtSource.Works ok does) facts = does stamp
 source_does x y per a b f back p stamp lt (AtSource.Resets h is) facts =
-    let n = (sender_at a y).session + 1 in
+    let n = (replicator_at a y).session + 1 in
     let q : Packet = record { session = n; stamp = stamp; frame = frame.Producer h.topic n n (Some (link_producer h h.own)) } in
     let P : Plan → Type 0 = λ p. Facts x y (done per a p) b (pushed y stamp f p.sent) back in
     let L : Link → Type 0 = λ l. Facts x y (done per a (resets h y n)) b l back in
     let asks : Asks q n = record { session = refl; topic = h.topic; id = n; request = n; name = Some (link_producer h h.own); is = refl } in
     subst P (sym is) (subst L (sym (ap (λ (t : Bool). if t then sent_on f q else f) (eq-eqb y y refl))) (reset_done x y per h a b f back q lt asks facts))
 
-pub source_halts : (x y per k : ℕ) (a b : Broker) (f : Link) (back : List Packet) (p : Plan) → y < length a.senders → AtSource x y per a b f back p
+pub source_halts : (x y per k : ℕ) (a b : Broker) (f : Link) (back : List Packet) (p : Plan) → y < length a.replicators → AtSource x y per a b f back p
     → Facts x y a b f back → Facts x y (halted per a k p) b f back
 source_halts x y per k a b f back p lt (AtSource.Works ok does) facts = facts_halted x y per k a b f back p lt ok facts
 source_halts x y per k a b f back p lt (AtSource.Resets h is) facts =

@@ -1,4 +1,4 @@
--- The facts of a pair of clusters, over six values: near is the topic at x and far the one at y; the sender at x and its
+-- The facts of a pair of clusters, over six values: near is the topic at x and far the one at y; the replicator at x and its
 -- cursor; the session that is open at y; the packets sent on the forward link with how many were taken, and those on the
 -- back link. Each record of facts says what every event keeps of it.
 use Rattle.std.proofs.Common.{◌≡◌, ℕ, ◌<◌, ◌≤◌, true, List, [], ◌∷◌, ◌++◌, length, sym, ap, subst, ◌∙◌, arith, inl, inr, ◌⊎◌, length-append}
@@ -6,10 +6,10 @@ use Rattle.std.proofs.lemmas.List.{append-nil}
 use Rattle.std.specs.Prelude.{Option, Some, None, slice_get}
 use Rattle.std.proofs.lemmas.Option.{none-some, slice_get_within}
 use Rattle.world_laws.proofs.Types.{Entry, Packet, Pending}
-use Rattle.world_laws.proofs.Types.sender_state
+use Rattle.world_laws.proofs.Types.replicator_state
 use Rattle.geo_base.specs.Cursor.{has}
 use Rattle.geo_base.specs.Entry.{is_outbound}
-use Rattle.geo_base.specs.Sender.{Sender}
+use Rattle.geo_base.specs.Replicator.{Replicator}
 use Rattle.world_laws.proofs.OnceInOrder.Members.{Stands, get_left, get_within}
 use Rattle.world_laws.proofs.Replicating.Packets.{Carries, IsOpener, IsReceipt, IsSend, Receives, WasSent, WasSentBefore, before_left, last_receipt, last_send, send_left}
 use Rattle.world_laws.proofs.Replicating.Prefixes.{Begins, near_grows}
@@ -44,11 +44,11 @@ pub record IsPending (near : List Entry) (sent : List Packet) (m : ℕ) (d : Pen
   pub send : IsSend sent place m d.number entry
   pub at : slice_get near d.index ≡ Some entry
 
--- What the sender's memory is worth: no session on the link is above its own, its numbers are new, one number is one entry,
+-- What the replicator's memory is worth: no session on the link is above its own, its numbers are new, one number is one entry,
 -- a session is opened before it is used, and all that was read is in the cursor or was sent in this session
-pub record InSession (x y : ℕ) (near : List Entry) (sent : List Packet) (s : Sender) : Type 0 where
+pub record InSession (x y : ℕ) (near : List Entry) (sent : List Packet) (s : Replicator) : Type 0 where
   pub bounded : (q : ℕ) (p : Packet) → slice_get sent q ≡ Some p → p.session ≤ s.session
-  pub numbered : (s.state ≡ sender_state.Closed → ⊥) → (q k : ℕ) (e : Entry) → IsSend sent q s.session k e → k < s.next
+  pub numbered : (s.state ≡ replicator_state.Closed → ⊥) → (q k : ℕ) (e : Entry) → IsSend sent q s.session k e → k < s.next
   pub unique : (q r m k : ℕ) (e f : Entry) → IsSend sent q m k e → IsSend sent r m k f → e ≡ f
   pub opened : (q r m k : ℕ) (e : Entry) → IsOpener sent q m → IsSend sent r m k e → q < r
   pub read : (j : ℕ) (f : Entry) → j < s.read_index → slice_get near j ≡ Some f → is_outbound x y f ≡ true → (has s.cursor j ≡ true) ⊎ WasSent sent s.session f
@@ -64,7 +64,7 @@ pub record Receiving (session : Option ℕ) (far : List Entry) (sent : List Pack
 pub none_open : (far : List Entry) (sent : List Packet) (taken : ℕ) → taken ≤ length sent → Receiving None far sent taken
 none_open far sent taken within = record { within = within; stands = λ m is. absurd (none-some m is) }
 
--- a list with more behind it
+-- a list with more after it
 pub record Grows (es es' : List Entry) : Type 0 where
   pub more : List Entry
   pub is : es' ≡ es ++ more

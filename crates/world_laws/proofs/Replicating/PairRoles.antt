@@ -1,4 +1,4 @@
--- The part that an event has in a pair, by its shape: at the source it may write and turn the sender, at the target it may store
+-- The part that an event has in a pair, by its shape: at the source it may write and turn the replicator, at the target it may store
 -- and turn the session, and most events of either do neither.
 use Rattle.std.proofs.Common.{◌≡◌, ℕ, ◌+◌, ◌<◌, Bool, true, false, List, [], ◌∷◌, length, refl, sym, ap, subst, ◌∙◌, ◌==◌}
 use Rattle.std.specs.Prelude.{Option, Some, None, if◌then◌else◌}
@@ -7,11 +7,11 @@ use Rattle.world_laws.proofs.Types.{Change, Entry, Out, Packet, Peer, Write}
 use Rattle.world_laws.proofs.Types.change
 use Rattle.world_laws.proofs.Types.frame
 use Rattle.world_laws.proofs.Types.peer
-use Rattle.world_laws.proofs.Types.place
+use Rattle.world_laws.proofs.Types.cluster_ref
 use Rattle.world_laws.proofs.Types.sub_kind
 use Rattle.world_laws.proofs.Types.write
-use Rattle.geo_base.specs.Broker.{Broker, Site, sender_at}
-use Rattle.geo_base.specs.Builder.{current_id}
+use Rattle.geo_base.specs.Broker.{Broker, Site, replicator_at}
+use Rattle.geo_base.specs.SnapshotBuilder.{current_id}
 use Rattle.geo_base.specs.Entry.{is_outbound}
 use Rattle.geo_base.specs.Forwarding.{resets}
 use Rattle.geo_base.specs.Link.{Link, next_packet, sent_on}
@@ -22,15 +22,15 @@ use Rattle.geo_base.specs.Reading.{forwards}
 use Rattle.geo_base.specs.Seeking.{restart}
 use Rattle.geo_base.specs.Setup.{Setup, declared_at}
 use Rattle.geo_base.specs.Subscription.{Subscription}
-use Rattle.geo_base.specs.Updating.{handled, passed_over}
+use Rattle.geo_base.specs.Updating.{handled, updated_indexes}
 use Rattle.geo_base.specs.World.{Back, Forward, LinkName, World, link_at, node, site, stamped, topic_at}
 use Rattle.world_laws.proofs.Replicating.Effects.{Each, each_map}
 use Rattle.world_laws.proofs.Walks.EventWalk.{of_node, of_pair, of_target}
 use Rattle.world_laws.proofs.Replicating.LinkFrames.{pushed, pushed_one}
 use Rattle.world_laws.proofs.OnceInOrder.Members.{Stands}
 use Rattle.world_laws.proofs.Replicating.Reach.{Incoming, IncomingChange, IncomingOut, IncomingPeer, OutgoingPeer, IncomingWrite, Outgoing, OutgoingChange, OutgoingOut, OutgoingWrite, fated_in, fated_out, fated_quiet, offers_out, reads_out, resets_out, seeks_out, served_out, snaps_out}
-use Rattle.world_laws.proofs.Replicating.SenderEvents.{answered_done, fated_ok, forwards_done, handled_done, handled_ok}
-use Rattle.world_laws.proofs.Replicating.SenderSide.{Facts, LeavesSender, OkWrite, facts_aside, facts_halted}
+use Rattle.world_laws.proofs.Replicating.ReplicatorEvents.{answered_done, fated_ok, forwards_done, handled_done, handled_ok}
+use Rattle.world_laws.proofs.Replicating.ReplicatorSide.{Facts, LeavesReplicator, OkWrite, facts_aside, facts_halted}
 use Rattle.world_laws.proofs.Walks.Shapes.{Answered, Fated, Reads, ReadsNext, Shape, Updates}
 
 -- the facts of a pair in a world
@@ -84,18 +84,18 @@ shape_within s w p (Shape.Offer t x n plan within offers) = ltb-true _ _ (of_nod
 shape_within s w p (Shape.Seek t x n to plan within seeks) = ltb-true _ _ (of_node s t x within)
 shape_within s w p (Shape.Restart t x within) = ltb-true _ _ (of_node s t x within)
 
--- at the source: it writes what it may and turns the sender as it may, or it is a reset
+-- at the source: it writes what it may and turns the replicator as it may, or it is a reset
 pub data AtSource (x y per : ℕ) (a b : Broker) (f : Link) (back : List Packet) (p : Plan) : Type 0 where
   Works : Each (OkWrite x y a.entries b.entries) p.writes → ((stamp : ℕ) → Facts x y (done per a p) b (pushed y stamp f p.sent) back) → AtSource x y per a b f back p
-  Resets : (h : Site) → p ≡ resets h y ((sender_at a y).session + 1) → AtSource x y per a b f back p
+  Resets : (h : Site) → p ≡ resets h y ((replicator_at a y).session + 1) → AtSource x y per a b f back p
 
 out_write : (x y own z : ℕ) (near far : List Entry) → (z ≡ y → ⊥) → (w : Write) → OutgoingWrite own z w → OkWrite x y near far w
-out_write x y own z near far other (write.SenderAck v i) h = λ is. absurd (other (sym h ∙ is))
+out_write x y own z near far other (write.ReplicatorAck v i) h = λ is. absurd (other (sym h ∙ is))
 out_write x y own z near far other (write.SessionNumber v n) h = λ is. other (sym h ∙ is)
 out_write x y own z near far other (write.Append e) h = tt
 out_write x y own z near far other w h = tt
 
-pub out_change : (y z : ℕ) → (z ≡ y → ⊥) → (c : Change) → OutgoingChange z c → LeavesSender y c
+pub out_change : (y z : ℕ) → (z ≡ y → ⊥) → (c : Change) → OutgoingChange z c → LeavesReplicator y c
 out_change y z other (change.Opening v) h = λ is. other (sym h ∙ is)
 out_change y z other (change.Opened v) h = λ is. other (sym h ∙ is)
 out_change y z other (change.Pend v i) h = λ is. other (sym h ∙ is)
@@ -112,7 +112,7 @@ not_pushed y v stamp o f other = by (v == y) refl
     by true e = absurd (other (eqb-true v y e))
     by false e = refl
 
--- a packet that goes to another sender's link
+-- a packet that goes to another replicator's link
 abbrev pub ElsePeer : ℕ → Peer → Type 0
 ElsePeer y (peer.Forward v) = v ≡ y → ⊥
 ElsePeer y (peer.Broker v) = v ≡ y → ⊥
@@ -142,11 +142,11 @@ in_peer y z (peer.Client c) h = tt
 in_peer y z (peer.Broker v) h = absurd h
 
 in_write : (x y z : ℕ) (near far : List Entry) (w : Write) → IncomingWrite z w → OkWrite x y near far w
-in_write x y z near far (write.SenderAck v i) h = absurd h
+in_write x y z near far (write.ReplicatorAck v i) h = absurd h
 in_write x y z near far (write.SessionNumber v n) h = absurd h
 in_write x y z near far w h = tt
 
-pub in_change : (y z : ℕ) (c : Change) → IncomingChange z c → LeavesSender y c
+pub in_change : (y z : ℕ) (c : Change) → IncomingChange z c → LeavesReplicator y c
 in_change y z (change.Receiver v r) h = tt
 in_change y z (change.Opening v) h = absurd h
 in_change y z (change.Opened v) h = absurd h
@@ -156,40 +156,40 @@ in_change y z (change.Unpend v n) h = absurd h
 in_change y z change.Forget h = h
 in_change y z c h = tt
 
--- what reaches another sender
-pub source_aside : (x y per : ℕ) (a b : Broker) (f : Link) (back : List Packet) (p : Plan) → y < length a.senders → Each (OkWrite x y a.entries b.entries) p.writes
-    → Each (LeavesSender y) p.changes → Each (λ (o : Out). ElsePeer y o.to) p.sent → Facts x y a b f back → AtSource x y per a b f back p
+-- what reaches another replicator
+pub source_aside : (x y per : ℕ) (a b : Broker) (f : Link) (back : List Packet) (p : Plan) → y < length a.replicators → Each (OkWrite x y a.entries b.entries) p.writes
+    → Each (LeavesReplicator y) p.changes → Each (λ (o : Out). ElsePeer y o.to) p.sent → Facts x y a b f back → AtSource x y per a b f back p
 source_aside x y per a b f back p lt ok leaves sent facts =
     let P : Link → Type 0 = λ l. Facts x y (done per a p) b l back in
     AtSource.Works ok (λ stamp. subst P (sym (pushed_else y stamp f p.sent sent)) (facts_aside x y per a b f back p lt ok leaves facts))
 
-pub source_out : (x y own z per : ℕ) (a b : Broker) (f : Link) (back : List Packet) (p : Plan) → y < length a.senders → (z ≡ y → ⊥) → Outgoing own z p
+pub source_out : (x y own z per : ℕ) (a b : Broker) (f : Link) (back : List Packet) (p : Plan) → y < length a.replicators → (z ≡ y → ⊥) → Outgoing own z p
     → Facts x y a b f back → AtSource x y per a b f back p
 source_out x y own z per a b f back p lt other o facts =
     source_aside x y per a b f back p lt
     (each_map (OutgoingWrite own z) (OkWrite x y a.entries b.entries) (out_write x y own z a.entries b.entries other) p.writes o.writes)
-    (each_map (OutgoingChange z) (LeavesSender y) (out_change y z other) p.changes o.changes)
+    (each_map (OutgoingChange z) (LeavesReplicator y) (out_change y z other) p.changes o.changes)
     (each_map (OutgoingOut z) (λ (o : Out). ElsePeer y o.to) (λ o h. out_peer y z other o.to h) p.sent o.sent) facts
 
 -- what reaches a receiving side
-pub source_in : (x y z per : ℕ) (a b : Broker) (f : Link) (back : List Packet) (p : Plan) → y < length a.senders → Incoming z p
+pub source_in : (x y z per : ℕ) (a b : Broker) (f : Link) (back : List Packet) (p : Plan) → y < length a.replicators → Incoming z p
     → Facts x y a b f back → AtSource x y per a b f back p
 source_in x y z per a b f back p lt i facts =
     source_aside x y per a b f back p lt
     (each_map (IncomingWrite z) (OkWrite x y a.entries b.entries) (in_write x y z a.entries b.entries) p.writes i.writes)
-    (each_map (IncomingChange z) (LeavesSender y) (in_change y z) p.changes i.changes)
+    (each_map (IncomingChange z) (LeavesReplicator y) (in_change y z) p.changes i.changes)
     (each_map (IncomingOut z) (λ (o : Out). ElsePeer y o.to) (λ o h. in_peer y z o.to h) p.sent i.sent) facts
 
-pub source_again : (x y per : ℕ) (a b : Broker) (f : Link) (back : List Packet) → y < length a.senders → Facts x y a b f back → AtSource x y per a b f back restart
+pub source_again : (x y per : ℕ) (a b : Broker) (f : Link) (back : List Packet) → y < length a.replicators → Facts x y a b f back → AtSource x y per a b f back restart
 unfolding restart
 source_again x y per a b f back lt facts = AtSource.Works (tt, tt) (λ stamp. facts_halted x y per 0 a b f back idle_plan lt tt facts)
 
 pub source_idle : (x y per : ℕ) (a b : Broker) (f : Link) (back : List Packet) → Facts x y a b f back → AtSource x y per a b f back idle_plan
 source_idle x y per a b f back facts = AtSource.Works tt (λ stamp. facts)
 
--- the sender to y reads
-pub source_handled : (y per : ℕ) (h : Site) (a b : Broker) (f : Link) (back : List Packet) (i : ℕ) (e : Entry) (ws : List Write) (cs : List Change) → y < length a.senders
-    → ReadsNext h a y i e → is_outbound h.own y e ≡ false → Each (OkWrite h.own y a.entries b.entries) ws → Each (LeavesSender y) cs
+-- the replicator to y reads
+pub source_handled : (y per : ℕ) (h : Site) (a b : Broker) (f : Link) (back : List Packet) (i : ℕ) (e : Entry) (ws : List Write) (cs : List Change) → y < length a.replicators
+    → ReadsNext h a y i e → is_outbound h.own y e ≡ false → Each (OkWrite h.own y a.entries b.entries) ws → Each (LeavesReplicator y) cs
     → Facts h.own y a b f back → AtSource h.own y per a b f back (handled y i ws cs)
 source_handled y per h a b f back i e ws cs lt next other ok leaves facts =
     AtSource.Works (handled_ok h.own y h a b.entries i e ws cs next other ok)
@@ -199,17 +199,17 @@ updates_ok : (x y : ℕ) (h : Site) (a : Broker) (far : List Entry) (v : Subscri
 updates_ok x y h a far v ws Updates.NoUpdate = tt
 updates_ok x y h a far v ws (Updates.Update cut replicated passed) = (tt, tt)
 
-pub source_reads : (y per : ℕ) (h : Site) (a b : Broker) (f : Link) (back : List Packet) (p : Plan) → y < length a.senders → Reads h a y p → Facts h.own y a b f back
+pub source_reads : (y per : ℕ) (h : Site) (a b : Broker) (f : Link) (back : List Packet) (p : Plan) → y < length a.replicators → Reads h a y p → Facts h.own y a b f back
     → AtSource h.own y per a b f back p
 source_reads y per h a b f back p lt Reads.NothingToRead facts = source_idle h.own y per a b f back facts
 source_reads y per h a b f back p lt (Reads.Forwards i e next out) facts =
-    let s = sender_at a y in
+    let s = replicator_at a y in
     let P : Link → Type 0 = λ l. Facts h.own y (done per a (forwards h y s i e)) b l back in
     AtSource.Works tt
     (λ stamp.
-    let q : Packet = record { session = s.session; stamp = stamp; frame = frame.Send s.session s.next (Some (place.Known h.own)) e } in
+    let q : Packet = record { session = s.session; stamp = stamp; frame = frame.Send s.session s.next (Some (cluster_ref.Known h.own)) e } in
     subst P (sym (ap (λ (t : Bool). if t then sent_on f q else f) (eq-eqb y y refl)))
-    (forwards_done h.own y per h a b f back i e q lt next out (record { session = refl; id = s.session; source = Some (place.Known h.own); is = refl }) facts))
+    (forwards_done h.own y per h a b f back i e q lt next out (record { session = refl; id = s.session; source = Some (cluster_ref.Known h.own); is = refl }) facts))
 source_reads y per h a b f back p lt (Reads.Skips i e next other) facts = source_handled y per h a b f back i e [] [] lt next other tt tt facts
 source_reads y per h a b f back p lt (Reads.Responds i e id source next of is) facts =
     source_handled y per h a b f back i e (write.Append (response_marker h a y id) ∷ []) [] lt next of.0 (tt, tt) tt facts
@@ -220,14 +220,14 @@ source_reads y per h a b f back p lt (Reads.AsksAgain i e id answer u u' next is
 source_reads y per h a b f back p lt (Reads.Completes i e id answer u u' next is heard) facts =
     source_handled y per h a b f back i e (write.Append (snapshot_marker h a u') ∷ []) (change.Building None ∷ []) lt next is.0.0 (tt, tt) (tt, tt) facts
 source_reads y per h a b f back p lt (Reads.CreatesAt i j e n remote next is named) facts =
-    source_handled y per h a b f back i e (write.Create n sub_kind.Exclusive true false ∷ write.Acks n (passed_over y 0 (j + 1) a.entries) ∷ [])
+    source_handled y per h a b f back i e (write.Create n sub_kind.Exclusive true false ∷ write.Acks n (updated_indexes y 0 (j + 1) a.entries) ∷ [])
     (change.Acked n ∷ []) lt next is.0.0 (tt, (tt, tt)) (tt, tt) facts
-source_reads y per h a b f back p lt (Reads.PassesOver i j e n remote v ws next is named after) facts =
-    source_handled y per h a b f back i e (write.Acks n (passed_over y 0 (j + 1) a.entries) ∷ ws) (change.Acked n ∷ []) lt next is.0.0
+source_reads y per h a b f back p lt (Reads.ActsOnUpdate i j e n remote v ws next is named after) facts =
+    source_handled y per h a b f back i e (write.Acks n (updated_indexes y 0 (j + 1) a.entries) ∷ ws) (change.Acked n ∷ []) lt next is.0.0
     (tt, updates_ok h.own y h a b.entries _ ws after) (tt, tt) facts
 
--- the sender to y takes a receipt
-pub source_answered : (x y per : ℕ) (a b : Broker) (f : Link) (back : List Packet) (q : Packet) (p : Plan) → y < length a.senders → Stands back q
+-- the replicator to y takes a receipt
+pub source_answered : (x y per : ℕ) (a b : Broker) (f : Link) (back : List Packet) (q : Packet) (p : Plan) → y < length a.replicators → Stands back q
     → Fated per a (λ c. Answered c y q) (quiet_plan []) p → Facts x y a b f back → AtSource x y per a b f back p
 source_answered x y per a b f back q p lt came t facts =
     let P : List Out → Type 0 = λ os. (stamp : ℕ) → Facts x y (done per a p) b (pushed y stamp f os) back in

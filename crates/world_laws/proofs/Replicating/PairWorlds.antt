@@ -7,7 +7,7 @@ use Rattle.std.proofs.lemmas.Option.{none-some, slice_get_within}
 use Rattle.std.proofs.Math.Nat.{min-eq_left, min-eq_right}
 use Rattle.world_laws.proofs.Types.{Entry, Out, Packet, Peer}
 use Rattle.world_laws.proofs.Types.peer
-use Rattle.geo_base.specs.Broker.{Broker, no_broker, receiver_at, sender_at}
+use Rattle.geo_base.specs.Broker.{Broker, no_broker, receiver_at, replicator_at}
 use Rattle.geo_base.specs.Happening.{broker_does, broker_halts}
 use Rattle.geo_base.specs.Laws.{ArePair}
 use Rattle.geo_base.specs.Link.{Link, next_packet, took}
@@ -25,7 +25,7 @@ use Rattle.world_laws.proofs.Replicating.PairFacts.{Carried, Receiving, carried_
 use Rattle.world_laws.proofs.Replicating.PairRoles.{IsEmpty, NotForward, PairIn, Reaches, shape_reaches, shape_within}
 use Rattle.world_laws.proofs.Replicating.Reach.{IncomingOut, IncomingPeer, OutgoingOut, OutgoingPeer}
 use Rattle.world_laws.proofs.Replicating.ReceiverSide.{there_aside, there_halted}
-use Rattle.world_laws.proofs.Replicating.SenderSide.{Facts}
+use Rattle.world_laws.proofs.Replicating.ReplicatorSide.{Facts}
 use Rattle.world_laws.proofs.Walks.Shapes.{Shape}
 use Rattle.world_laws.proofs.Replicating.Sizes.{IsThere, Sized, node_there}
 use Rattle.world_laws.proofs.Replicating.TakeEvents.{HasTaken, OkOut, taken_done}
@@ -126,7 +126,7 @@ role_of s p t x y lt lx ly = by (node s p.topic p.cluster == node s t x) (node s
 pub apart : (s : Setup) (t x y : ℕ) → x < length s.clusters → y < length s.clusters → (x ≡ y → ⊥) → node s t x ≡ node s t y → ⊥
 apart s t x y lx ly other is = other (same_node s t t x y lx ly is).1
 
--- a stop behind some writes of an event
+-- a stop after some writes of an event
 abbrev HaltedAt : Setup → World → ℕ → Planned → ℕ → ℕ → ℕ → Type 0
 HaltedAt s w k p t x y =
     PairAt s (slice_set w.brokers (node s p.topic p.cluster) (halted s.per_ledger (topic_at s w p.topic p.cluster) k p.plan)) (taken_from p.takes w.links) t x y
@@ -136,7 +136,7 @@ halted_source : (s : Setup) (w : World) (k : ℕ) (p : Planned) (y : ℕ) → Sh
 halted_source s w k p y shape z there ly other facts =
     let n = node s p.topic p.cluster in
     let a = topic_at s w p.topic p.cluster in
-    let wide : y < length a.senders = omega (arith, ly, (z.wide p.topic p.cluster there).senders) in
+    let wide : y < length a.replicators = omega (arith, ly, (z.wide p.topic p.cluster there).replicators) in
     moved p.cluster y (halted s.per_ledger a k p.plan) _ (topic_at s w p.topic y) _ (link_at w.links (Forward n y)) _ (link_at w.links (Back n y)).sent _
     (get_or-set_same w.brokers n _ no_broker (node_there s w p.topic p.cluster z there))
     (get_or-set_other w.brokers n (node s p.topic y) _ no_broker (λ is. apart s p.topic p.cluster y there.1 ly other (sym is)))
@@ -248,7 +248,7 @@ done_source : (s : Setup) (w : World) (p : Planned) (stamp y : ℕ) → Shape s 
 done_source s w p stamp y shape acts z there ly other facts =
     let n = node s p.topic p.cluster in
     let a = topic_at s w p.topic p.cluster in let f = link_at w.links (Forward n y) in
-    let wide : y < length a.senders = omega (arith, ly, (z.wide p.topic p.cluster there).senders) in
+    let wide : y < length a.replicators = omega (arith, ly, (z.wide p.topic p.cluster there).replicators) in
     let r = shape_reaches s w p shape in
     moved p.cluster y (done s.per_ledger a p.plan) _ (topic_at s w p.topic y) _ (pushed y stamp f p.plan.sent) _ (link_at w.links (Back n y)).sent _
     (get_or-set_same w.brokers n _ no_broker (node_there s w p.topic p.cluster z there))
@@ -314,7 +314,7 @@ done_target s w p stamp x (AtTarget.Again is takes) acts once z there lx other f
 done_target s w p stamp x (AtTarget.Takes q next taken takes) acts once z there lx other facts =
     let n = node s p.topic p.cluster in let i = node s p.topic x in let y = p.cluster in
     let b = topic_at s w p.topic p.cluster in let a = topic_at s w p.topic x in let f = link_at w.links (Forward i y) in
-    let b' = done s.per_ledger b p.plan in let cursor = (sender_at a y).cursor in
+    let b' = done s.per_ledger b p.plan in let cursor = (replicator_at a y).cursor in
     let wide : x < length b.receivers = omega (arith, lx, (z.wide p.topic p.cluster there).receivers) in
     let ls = delivered (from_broker s p.topic p.cluster) stamp p.plan.sent w.links in
     let not_i : n ≡ i → ⊥ = apart s p.topic p.cluster x there.1 lx other in

@@ -7,7 +7,7 @@ use Rattle.std.proofs.lemmas.List.{get_or-replicate, get_or_past, length-set}
 use Rattle.std.proofs.Math.Nat.{mul-le-mul_right}
 use Rattle.std.proofs.lemmas.Option.{none-some}
 use Rattle.world_laws.proofs.Types.{Entry, Packet}
-use Rattle.geo_base.specs.Broker.{Broker, new_broker, no_broker, receiver_at, sender_at}
+use Rattle.geo_base.specs.Broker.{Broker, new_broker, no_broker, receiver_at, replicator_at}
 use Rattle.geo_base.specs.Client.{Acted}
 use Rattle.geo_base.specs.Cursor.{has}
 use Rattle.geo_base.specs.Entry.{is_outbound}
@@ -17,7 +17,7 @@ use Rattle.geo_base.specs.Link.{Link, discarded, no_link}
 use Rattle.geo_base.specs.Plan.{done, idle_plan}
 use Rattle.geo_base.specs.Planned.{Planned}
 use Rattle.geo_base.specs.Seeking.{restart}
-use Rattle.geo_base.specs.Sender.{Sender, new_sender}
+use Rattle.geo_base.specs.Replicator.{Replicator, new_replicator}
 use Rattle.geo_base.specs.Setup.{Setup}
 use Rattle.geo_base.specs.World.{Back, Forward, Links, ToClient, World, cell, delivered, from_client, link_at, node, opening_world, packet_at, table, taken_from, topic_at}
 use Rattle.geo_base.specs.Moments.{partly_written}
@@ -31,7 +31,7 @@ use Rattle.world_laws.proofs.Replicating.PairRoles.{PairIn}
 use Rattle.world_laws.proofs.Replicating.PairWorlds.{PairAt, moved, pair_does, pair_halts}
 use Rattle.world_laws.proofs.Replicating.ReceiverSide.{there_halted}
 use Rattle.world_laws.proofs.Induction.Runs.{IsKept, always}
-use Rattle.world_laws.proofs.Replicating.SenderSide.{Facts, facts_halted}
+use Rattle.world_laws.proofs.Replicating.ReplicatorSide.{Facts, facts_halted}
 use Rattle.world_laws.proofs.Walks.Shapes.{Shape}
 use Rattle.world_laws.proofs.Replicating.Sizes.{Sized, node_lt, node_there, sized_kept, stopped_at}
 use Rattle.world_laws.proofs.Walks.Walk.{on_if}
@@ -80,7 +80,7 @@ pair_stops s w t x y z lt pair h =
     let a = topic_at s w t x in let b = topic_at s w t y in
     let f = link_at w.links (Forward (node s t x) y) in let k = (link_at w.links (Back (node s t x) y)).sent in
     let wide = z.wide t x (lt, pair.0) in
-    let first : Facts x y (done s.per_ledger a restart) b f k = facts_halted x y s.per_ledger 0 a b f k idle_plan (omega (arith, wide.senders, pair.1)) tt h in
+    let first : Facts x y (done s.per_ledger a restart) b f k = facts_halted x y s.per_ledger 0 a b f k idle_plan (omega (arith, wide.replicators, pair.1)) tt h in
     let both : Facts x y (done s.per_ledger a restart) (done s.per_ledger b restart) (discarded f) k =
     there_halted x y s.per_ledger 0 (done s.per_ledger a restart) b f (discarded f) k idle_plan tt refl (omega arith) first in
     moved x y (done s.per_ledger a restart) _ (done s.per_ledger b restart) _ (discarded f) _ k _
@@ -89,13 +89,13 @@ pair_stops s w t x y z lt pair h =
     (discarded_cell w.links.forward (node s t x) y) (ap (λ (l : Link). l.sent) (discarded_cell w.links.back (node s t x) y)) both
 
 -- nothing has happened yet
-empty_facts : (x y : ℕ) (a b : Broker) → a.entries ≡ [] → b.entries ≡ [] → sender_at a y ≡ new_sender → receiver_at b x ≡ None → Facts x y a b no_link []
-empty_facts x y a b near far sender session = record {
+empty_facts : (x y : ℕ) (a b : Broker) → a.entries ≡ [] → b.entries ≡ [] → replicator_at a y ≡ new_replicator → receiver_at b x ≡ None → Facts x y a b no_link []
+empty_facts x y a b near far replicator session = record {
   carried =
-      subst (λ (es : List Entry). Carried x y es (sender_at a y).cursor b.entries [] []) (sym near)
-      (subst (λ (s : Sender). Carried x y [] s.cursor b.entries [] []) (sym sender) (subst (λ (es : List Entry). Carried x y [] [] es [] []) (sym far) carried));
+      subst (λ (es : List Entry). Carried x y es (replicator_at a y).cursor b.entries [] []) (sym near)
+      (subst (λ (s : Replicator). Carried x y [] s.cursor b.entries [] []) (sym replicator) (subst (λ (es : List Entry). Carried x y [] [] es [] []) (sym far) carried));
   session =
-      subst (λ (es : List Entry). InSession x y es [] (sender_at a y)) (sym near) (subst (λ (s : Sender). InSession x y [] [] s) (sym sender) empty);
+      subst (λ (es : List Entry). InSession x y es [] (replicator_at a y)) (sym near) (subst (λ (s : Replicator). InSession x y [] [] s) (sym replicator) empty);
   receiving = record { within = omega arith; stands = λ m is. absurd (none-some m (sym session ∙ is)) };
 }
   where
@@ -108,7 +108,7 @@ empty_facts x y a b near far sender session = record {
       receipts = λ a m k is. absurd (none-some is.packet is.at);
     }
 
-    empty : InSession x y [] [] new_sender
+    empty : InSession x y [] [] new_replicator
     empty = record {
       bounded = λ q p at. absurd (none-some p at);
       numbered = λ live q k e is. absurd (none-some is.packet is.at);
@@ -130,7 +130,7 @@ pair_opening s t x y lt pair =
     moved x y b _ b _ no_link _ [] _
     (get_or-replicate nodes (node s t x) b no_broker (node_lt s t x (lt, pair.0))) (get_or-replicate nodes (node s t y) b no_broker (node_lt s t y (lt, pair.1)))
     (empty_cell nodes n (node s t x) y) (ap (λ (l : Link). l.sent) (empty_cell nodes n (node s t x) y))
-    (empty_facts x y b b refl refl (at_copies (λ (v : Sender). v ≡ new_sender) n y new_sender new_sender refl refl)
+    (empty_facts x y b b refl refl (at_copies (λ (v : Replicator). v ≡ new_replicator) n y new_replicator new_replicator refl refl)
     (at_copies (λ (r : Option ℕ). r ≡ None) n x None None refl refl))
 
 pub replication_kept : (s : Setup) → IsKept s (Replicates s)
@@ -191,7 +191,7 @@ laws_of s w f back size h = (prefix, received)
     prefix : IsPrefix s w
     prefix t x y pair = prefix_at t x y pair (nat_lt t (length s.topics)) refl
 
-    received_at : (t x y i : ℕ) (e : Entry) → ArePair s x y → (b : Bool) → nat_lt t (length s.topics) ≡ b → has (sender_at (topic_at s w t x) y).cursor i ≡ true
+    received_at : (t x y i : ℕ) (e : Entry) → ArePair s x y → (b : Bool) → nat_lt t (length s.topics) ≡ b → has (replicator_at (topic_at s w t x) y).cursor i ≡ true
         → slice_get (topic_at s w t x).entries i ≡ Some e → is_outbound x y e ≡ true
         → (k : ℕ) × (slice_get (topic_at s w t y).entries k ≡ Some e)
     received_at t x y i e pair true b acked at out = let r = (h t x y (ltb-true _ _ b) pair).received i e acked at out in (r.place, r.is)

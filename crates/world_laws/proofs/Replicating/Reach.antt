@@ -1,4 +1,4 @@
--- How far a plan reaches beside subscriptions, sessions of clients and the builder: to one sender, or to one receiving side.
+-- How far a plan reaches beside subscriptions, sessions of clients and the builder: to one replicator, or to one receiving side.
 use Rattle.std.proofs.Common.{◌≡◌, ℕ, List, [], ◌∷◌, ◌++◌, refl, ◌∙◌, ap}
 use Rattle.std.specs.Prelude.{Option}
 use Rattle.world_laws.proofs.Types.{Change, Out, Packet, Peer, Position, Write}
@@ -12,10 +12,10 @@ use Rattle.geo_base.specs.Subscription.{Subscription}
 use Rattle.world_laws.proofs.Replicating.Effects.{Each, each_both}
 use Rattle.world_laws.proofs.Walks.Shapes.{Answered, Fated, Offers, Reads, Seeks, Served, Snaps, Taken, Updates}
 
--- own entries, and the sender to z
+-- own entries, and the replicator to z
 abbrev pub OutgoingWrite : ℕ → ℕ → Write → Type 0
 OutgoingWrite own z (write.Append e) = e.ident.origin ≡ own
-OutgoingWrite own z (write.SenderAck v i) = v ≡ z
+OutgoingWrite own z (write.ReplicatorAck v i) = v ≡ z
 OutgoingWrite own z (write.SessionNumber v n) = v ≡ z
 OutgoingWrite own z w = Unit {0}
 
@@ -46,7 +46,7 @@ pub record Outgoing (own z : ℕ) (p : Plan) : Type 0 where
 -- entries of z, and the session from z
 abbrev pub IncomingWrite : ℕ → Write → Type 0
 IncomingWrite z (write.Append e) = e.ident.origin ≡ z
-IncomingWrite z (write.SenderAck v i) = ⊥
+IncomingWrite z (write.ReplicatorAck v i) = ⊥
 IncomingWrite z (write.SessionNumber v n) = ⊥
 IncomingWrite z w = Unit {0}
 
@@ -78,7 +78,7 @@ updates_out : (h : Site) (b : Broker) (v : Subscription) (z : ℕ) (ws : List Wr
 updates_out h b v z ws Updates.NoUpdate = tt
 updates_out h b v z ws (Updates.Update cut replicated passed) = (refl, tt)
 
--- what goes on with clients and subscriptions reaches no sender, so that any z will do
+-- what goes on with clients and subscriptions reaches no replicator, so that any z will do
 pub served_out : (h : Site) (b : Broker) (c : ℕ) (p : Packet) (z : ℕ) (q : Plan) → Served h b c p q → Outgoing h.own z q
 served_out h b c p z q (Served.Stores s id seq source e at sound new) = record { writes = (refl, tt); changes = tt; sent = (tt, tt) }
 served_out h b c p z q (Served.Acknowledges s id kind ps v i is ws at sent by of after) = record { writes = (tt, updates_out h b _ z ws after); changes = (tt, tt); sent = tt }
@@ -102,16 +102,16 @@ snaps_out h b z q (Snaps.Asks any none) = record { writes = (refl, tt); changes 
 pub offers_out : (h : Site) (b : Broker) (n : List ℕ) (z : ℕ) (q : Plan) → Offers h b n q → Outgoing h.own z q
 offers_out h b n z q Offers.NothingToOffer = record { writes = tt; changes = tt; sent = tt }
 offers_out h b n z q (Offers.Gives v i at e due is picked) = record { writes = tt; changes = (tt, tt); sent = (tt, tt) }
-offers_out h b n z q (Offers.PassesBy v i e ws due is after) = record { writes = (tt, updates_out h b _ z ws after); changes = (tt, (tt, tt)); sent = tt }
+offers_out h b n z q (Offers.SkipsMarker v i e ws due is after) = record { writes = (tt, updates_out h b _ z ws after); changes = (tt, (tt, tt)); sent = tt }
 offers_out h b n z q (Offers.Caches v i j e c ws due is after) = record { writes = (tt, updates_out h b _ z ws after); changes = (tt, (tt, (tt, tt))); sent = tt }
 
 pub seeks_out : (h : Site) (b : Broker) (n : List ℕ) (to : Option Position) (z : ℕ) (q : Plan) → Seeks h b n to q → Outgoing h.own z q
 seeks_out h b n to z q Seeks.NothingToSeek = record { writes = tt; changes = tt; sent = tt }
 seeks_out h b n to z q (Seeks.SeeksTo v i ws named at after) = record { writes = (tt, updates_out h b _ z ws after); changes = (tt, tt); sent = tt }
 
--- the events of the sender to z
-handled_out : (own z i : ℕ) (ws : List Write) → Each (OutgoingWrite own z) ws → Each (OutgoingWrite own z) (ws ++ write.SenderAck z i ∷ [])
-handled_out own z i ws h = each_both (OutgoingWrite own z) ws (write.SenderAck z i ∷ []) h (refl, tt)
+-- the events of the replicator to z
+handled_out : (own z i : ℕ) (ws : List Write) → Each (OutgoingWrite own z) ws → Each (OutgoingWrite own z) (ws ++ write.ReplicatorAck z i ∷ [])
+handled_out own z i ws h = each_both (OutgoingWrite own z) ws (write.ReplicatorAck z i ∷ []) h (refl, tt)
 
 pub reads_out : (h : Site) (b : Broker) (z : ℕ) (q : Plan) → Reads h b z q → Outgoing h.own z q
 reads_out h b z q Reads.NothingToRead = record { writes = tt; changes = tt; sent = tt }
@@ -122,7 +122,7 @@ reads_out h b z q (Reads.Counts i e id answer u u' next is heard) = record { wri
 reads_out h b z q (Reads.AsksAgain i e id answer u u' next is heard) = record { writes = (refl, (refl, tt)); changes = (tt, (refl, tt)); sent = tt }
 reads_out h b z q (Reads.Completes i e id answer u u' next is heard) = record { writes = (refl, (refl, tt)); changes = (tt, (refl, tt)); sent = tt }
 reads_out h b z q (Reads.CreatesAt i j e n remote next is named) = record { writes = (tt, (tt, (refl, tt))); changes = (tt, (refl, tt)); sent = tt }
-reads_out h b z q (Reads.PassesOver i j e n remote v ws next is named after) =
+reads_out h b z q (Reads.ActsOnUpdate i j e n remote v ws next is named after) =
     record { writes = (tt, handled_out h.own z i ws (updates_out h b _ z ws after)); changes = (tt, (refl, tt)); sent = tt }
 
 pub resets_out : (h : Site) (own z n : ℕ) → Outgoing own z (resets h z n)

@@ -6,7 +6,7 @@ use Rattle.std.proofs.lemmas.Bool.{eqb-true}
 use Rattle.world_laws.proofs.Types.{Change, Entry, Packet, Write}
 use Rattle.world_laws.proofs.Types.change
 use Rattle.world_laws.proofs.Types.write
-use Rattle.geo_base.specs.Broker.{Broker, receiver_at, sender_at}
+use Rattle.geo_base.specs.Broker.{Broker, receiver_at, replicator_at}
 use Rattle.geo_base.specs.Link.{Link}
 use Rattle.geo_base.specs.Plan.{Plan, done, halted}
 use Rattle.world_laws.proofs.OnceInOrder.Appends.{after_halt, after_writes, done_entries, halted_entries}
@@ -14,7 +14,7 @@ use Rattle.world_laws.proofs.Replicating.Effects.{Each, done_session, halted_ses
 use Rattle.world_laws.proofs.OnceInOrder.Members.{Stands, stands_left}
 use Rattle.world_laws.proofs.Replicating.PairFacts.{Carried, InSession, Receiving, carried_far, none_open}
 use Rattle.world_laws.proofs.Replicating.Prefixes.{Begins, is_of, other_begins}
-use Rattle.world_laws.proofs.Replicating.SenderSide.{Facts}
+use Rattle.world_laws.proofs.Replicating.ReplicatorSide.{Facts}
 
 -- each append leaves a beginning
 abbrev pub Extends : ℕ → ℕ → List Entry → List Entry → List Write → Type 0
@@ -76,13 +76,13 @@ left_sessions x r (c ∷ cs) h = left_sessions x r cs h.1
 
 -- the facts with a new broker at y
 pub facts_there : (x y : ℕ) (a b b' : Broker) (f f' : Link) (back : List Packet) (far' : List Entry) (r : Option ℕ) → b'.entries ≡ far' → receiver_at b' x ≡ r
-    → f'.sent ≡ f.sent → Carried x y a.entries (sender_at a y).cursor far' f.sent back → Receiving r far' f.sent f'.taken → Facts x y a b f back → Facts x y a b' f' back
+    → f'.sent ≡ f.sent → Carried x y a.entries (replicator_at a y).cursor far' f.sent back → Receiving r far' f.sent f'.taken → Facts x y a b f back → Facts x y a b' f' back
 facts_there x y a b b' f f' back far' r entries session sent c k h =
-    let C : List Entry → List Packet → Type 0 = λ es ps. Carried x y a.entries (sender_at a y).cursor es ps back in
+    let C : List Entry → List Packet → Type 0 = λ es ps. Carried x y a.entries (replicator_at a y).cursor es ps back in
     let R : Option ℕ → List Entry → List Packet → Type 0 = λ o es ps. Receiving o es ps f'.taken in
     record {
       carried = subst (C b'.entries) (sym sent) (subst (λ (es : List Entry). C es f.sent) (sym entries) c);
-      session = subst (λ (ps : List Packet). InSession x y a.entries ps (sender_at a y)) (sym sent) h.session;
+      session = subst (λ (ps : List Packet). InSession x y a.entries ps (replicator_at a y)) (sym sent) h.session;
       receiving =
           subst (R (receiver_at b' x) b'.entries) (sym sent)
           (subst (λ (es : List Entry). R (receiver_at b' x) es f.sent) (sym entries) (subst (λ (o : Option ℕ). R o far' f.sent) (sym session) k));
@@ -100,14 +100,14 @@ there_aside x y per a b f back p lt others leaves h =
     let begins = extends_begins x y a.entries b.entries p.writes (others_extend x y a.entries b.entries p.writes others h.carried.begins) h.carried.begins in
     facts_there x y a b (done per b p) f f back far (receiver_at b x) (done_entries per b p)
     (done_session per b x p lt ∙ left_sessions x (receiver_at b x) p.changes leaves) refl
-    (carried_far x y a.entries (sender_at a y).cursor b.entries far f.sent back begins (stands_after b.entries p.writes) h.carried)
+    (carried_far x y a.entries (replicator_at a y).cursor b.entries far f.sent back begins (stands_after b.entries p.writes) h.carried)
     (receiving_more (receiver_at b x) b.entries far f.sent f.taken (stands_after b.entries p.writes) h.receiving) h
 
--- a stop behind some writes of a plan: no session is open
+-- a stop after some writes of a plan: no session is open
 pub there_halted : (x y per k : ℕ) (a b : Broker) (f f' : Link) (back : List Packet) (p : Plan) → Extends x y a.entries b.entries p.writes → f'.sent ≡ f.sent
     → f'.taken ≤ length f.sent → Facts x y a b f back → Facts x y a (halted per b k p) f' back
 there_halted x y per k a b f f' back p extends sent within h =
     let ws = take k p.writes in let far = after_writes b.entries ws in
     let begins = extends_begins x y a.entries b.entries ws (extends_take x y a.entries b.entries k p.writes extends) h.carried.begins in
     facts_there x y a b (halted per b k p) f f' back far None (halted_entries per b k p ∙ after_halt b.entries ws) (halted_session per b x k p) sent
-    (carried_far x y a.entries (sender_at a y).cursor b.entries far f.sent back begins (stands_after b.entries ws) h.carried) (none_open far f.sent f'.taken within) h
+    (carried_far x y a.entries (replicator_at a y).cursor b.entries far f.sent back begins (stands_after b.entries ws) h.carried) (none_open far f.sent f'.taken within) h

@@ -1,20 +1,20 @@
--- What keeps the facts of a sender's memory: one lemma for each kind of change.
+-- What keeps the facts of a replicator's memory: one lemma for each kind of change.
 use Rattle.std.proofs.Common.{◌≡◌, ℕ, zero, suc, ◌+◌, ◌<◌, ◌≤◌, Bool, true, false, List, [], ◌∷◌, ◌++◌, length, refl, sym, ap, subst, ◌∙◌, ◌==◌, arith, inl, inr, ◌⊎◌}
 use Rattle.std.specs.Prelude.{Some, if◌then◌else◌, nat_lt, slice_get}
 use Rattle.std.proofs.lemmas.Bool.{eqb-true, ltb-true}
 use Rattle.std.proofs.lemmas.Bool.Decides.{nat_tests}
 use Rattle.std.proofs.lemmas.Option.{none-some, same_Some, slice_get_within}
-use Rattle.world_laws.proofs.Types.{Entry, Packet, Pending, SenderState}
-use Rattle.world_laws.proofs.Types.sender_state
+use Rattle.world_laws.proofs.Types.{Entry, Packet, Pending, ReplicatorState}
+use Rattle.world_laws.proofs.Types.replicator_state
 use Rattle.geo_base.specs.Cursor.{has}
 use Rattle.geo_base.specs.Entry.{is_outbound}
-use Rattle.geo_base.specs.Sender.{Sender, pending_index, sender_sent, without_number}
+use Rattle.geo_base.specs.Replicator.{Replicator, pending_index, replicator_sent, without_number}
 use Rattle.world_laws.proofs.OnceInOrder.Members.{get_push, Stands, get_last, stands_next}
 use Rattle.world_laws.proofs.Replicating.Packets.{Asks, Carries, IsOpener, IsSend, WasSent, last_opener, last_send, not_both, same_entry, same_number, send_left, sent_left}
 use Rattle.world_laws.proofs.Replicating.PairFacts.{Grows, InSession, IsPending, grows_get, grows_length, grows_within}
 
 -- the topic grows, and the cursor too
-pub session_grew : (x y : ℕ) (near near' : List Entry) (sent : List Packet) (s : Sender) (cursor : List ℕ) → Grows near near'
+pub session_grew : (x y : ℕ) (near near' : List Entry) (sent : List Packet) (s : Replicator) (cursor : List ℕ) → Grows near near'
     → ((i : ℕ) → has s.cursor i ≡ true → has cursor i ≡ true) → InSession x y near sent s → InSession x y near' sent (record s { cursor = cursor })
 session_grew x y near near' sent s cursor g keeps f = record {
   bounded = f.bounded;
@@ -32,13 +32,13 @@ session_grew x y near near' sent s cursor g keeps f = record {
       record { place = p.place; entry = p.entry; send = p.send; at = grows_get near near' g d.index p.entry p.at };
 }
 
--- a sender that has no memory, in a session that may be new
-abbrev pub forgetful : Sender → ℕ → SenderState → Sender
+-- a replicator that has no memory, in a session that may be new
+abbrev pub forgetful : Replicator → ℕ → ReplicatorState → Replicator
 forgetful s m state = record { cursor = s.cursor; session = m; state = state; read_index = 0; next = 0; pending = [] }
 
 -- its session is closed, or no packet has it yet
-pub session_forgot : (x y : ℕ) (near : List Entry) (sent : List Packet) (s : Sender) (m : ℕ) (state : SenderState) → s.session ≤ m
-    → (state ≡ sender_state.Closed) ⊎ (s.session < m) → InSession x y near sent s → InSession x y near sent (forgetful s m state)
+pub session_forgot : (x y : ℕ) (near : List Entry) (sent : List Packet) (s : Replicator) (m : ℕ) (state : ReplicatorState) → s.session ≤ m
+    → (state ≡ replicator_state.Closed) ⊎ (s.session < m) → InSession x y near sent s → InSession x y near sent (forgetful s m state)
 session_forgot x y near sent s m state le new f = record {
   bounded = λ q p at. omega (arith, le, f.bounded q p at);
   numbered = λ live q k e is.
@@ -54,7 +54,7 @@ session_forgot x y near sent s m state le new f = record {
 }
 
 -- the packet that opens a new session goes out
-pub session_opens : (x y : ℕ) (near : List Entry) (sent : List Packet) (s : Sender) (p : Packet) → Asks p s.session
+pub session_opens : (x y : ℕ) (near : List Entry) (sent : List Packet) (s : Replicator) (p : Packet) → Asks p s.session
     → ((q k : ℕ) (e : Entry) → IsSend sent q s.session k e → ⊥) → InSession x y near sent s → InSession x y near (sent ++ p ∷ []) s
 session_opens x y near sent s p asks unused f = record {
   bounded = λ q r at. elim (get_push sent p q r at) [ inl h ↦ f.bounded q r h.1 | inr h ↦ omega (arith, asks.session, ap (λ (r : Packet). r.session) h.1) ];
@@ -81,8 +81,8 @@ session_opens x y near sent s p asks unused f = record {
     none_new q k e is = unused q k e (old q s.session k e is)
 
 -- the other side opened the session
-pub session_opened : (x y : ℕ) (near : List Entry) (sent : List Packet) (s : Sender) → (s.state ≡ sender_state.Closed → ⊥) → InSession x y near sent s
-    → InSession x y near sent (record s { state = sender_state.Open })
+pub session_opened : (x y : ℕ) (near : List Entry) (sent : List Packet) (s : Replicator) → (s.state ≡ replicator_state.Closed → ⊥) → InSession x y near sent s
+    → InSession x y near sent (record s { state = replicator_state.Open })
 session_opened x y near sent s live f = record {
   bounded = f.bounded;
   numbered = λ _. f.numbered live;
@@ -93,8 +93,8 @@ session_opened x y near sent s live f = record {
   pending = f.pending;
 }
 
--- the sender passes indexes that its cursor has
-pub session_read : (x y : ℕ) (near : List Entry) (sent : List Packet) (s : Sender) (i : ℕ) → i ≤ length near
+-- the replicator passes indexes that its cursor has
+pub session_read : (x y : ℕ) (near : List Entry) (sent : List Packet) (s : Replicator) (i : ℕ) → i ≤ length near
     → ((j : ℕ) → s.read_index ≤ j → j < i → has s.cursor j ≡ true) → InSession x y near sent s → InSession x y near sent (record s { read_index = i })
 session_read x y near sent s i le covered f = record {
   bounded = f.bounded;
@@ -123,7 +123,7 @@ without_is [] n a d h = absurd (none-some d h)
 without_is (p ∷ ps) n a d h = without_at p d ps (without_number ps n) (p.number == n) a (λ a h. without_is ps n a d h) h
 
 -- a receipt is no longer awaited
-pub session_received : (x y : ℕ) (near : List Entry) (sent : List Packet) (s : Sender) (n : ℕ) → InSession x y near sent s
+pub session_received : (x y : ℕ) (near : List Entry) (sent : List Packet) (s : Replicator) (n : ℕ) → InSession x y near sent s
     → InSession x y near sent (record s { pending = without_number s.pending n })
 session_received x y near sent s n f = record {
   bounded = f.bounded;
@@ -147,10 +147,10 @@ pub pending_is : (ps : List Pending) (n i : ℕ) → pending_index ps n ≡ Some
 pending_is [] n i h = absurd (none-some i h)
 pending_is (p ∷ ps) n i h = pending_at p ps n i (p.number == n) refl h (pending_is ps n i)
 
--- An entry for y goes out under the next number. The sender's session is open, so that its numbers are new
-pub session_sent : (x y : ℕ) (near : List Entry) (sent : List Packet) (s : Sender) (i : ℕ) (e : Entry) (p : Packet) → (s.state ≡ sender_state.Closed → ⊥)
+-- An entry for y goes out under the next number. The replicator's session is open, so that its numbers are new
+pub session_sent : (x y : ℕ) (near : List Entry) (sent : List Packet) (s : Replicator) (i : ℕ) (e : Entry) (p : Packet) → (s.state ≡ replicator_state.Closed → ⊥)
     → slice_get near i ≡ Some e → ((j : ℕ) → s.read_index ≤ j → j < i → has s.cursor j ≡ true) → Carries p s.session s.next e
-    → InSession x y near sent s → InSession x y near (sent ++ p ∷ []) (sender_sent i s)
+    → InSession x y near sent s → InSession x y near (sent ++ p ∷ []) (replicator_sent i s)
 session_sent x y near sent s i e p live at covered carries f = record {
   bounded = λ q r h. elim (get_push sent p q r h) [ inl h ↦ f.bounded q r h.1 | inr h ↦ omega (arith, carries.session, ap (λ (r : Packet). r.session) h.1) ];
   numbered = λ _ q k g is.

@@ -1,4 +1,4 @@
--- How many brokers, links, senders and receiving sides there are: as many as the setup says, at every moment.
+-- How many brokers, links, replicators and receiving sides there are: as many as the setup says, at every moment.
 use Rattle.std.proofs.Common.{◌≡◌, ℕ, ◌*◌, ◌<◌, List, [], length, map, refl, sym, ap, subst, ◌∙◌, arith}
 use Rattle.std.specs.Prelude.{Some, None, replicate, slice_set, slice_index_or}
 use Rattle.std.proofs.lemmas.List.{get_or-map, get_or-replicate, length-map, length-replicate, length-set}
@@ -11,7 +11,7 @@ use Rattle.geo_base.specs.Link.{Link, discarded, no_link}
 use Rattle.geo_base.specs.Plan.{done, halted}
 use Rattle.geo_base.specs.Planned.{Planned}
 use Rattle.geo_base.specs.Seeking.{restart}
-use Rattle.geo_base.specs.Sender.{new_sender}
+use Rattle.geo_base.specs.Replicator.{new_replicator}
 use Rattle.geo_base.specs.Setup.{Setup}
 use Rattle.geo_base.specs.World.{Links, ToClient, World, broker_at, delivered, from_broker, node, opening_world, taken_from, topic_at}
 use Rattle.world_laws.proofs.Replicating.Effects.{SameSize, done_size, halted_size}
@@ -20,9 +20,9 @@ use Rattle.world_laws.proofs.Replicating.LinkFrames.{HasCell, client_forward, se
 use Rattle.world_laws.proofs.Induction.Runs.{IsKept}
 use Rattle.world_laws.proofs.Walks.Walk.{on_if}
 
--- a broker has a sender and a receiving side for each cluster
+-- a broker has a replicator and a receiving side for each cluster
 pub record IsWide (s : Setup) (b : Broker) : Type 0 where
-  pub senders : length b.senders ≡ length s.clusters
+  pub replicators : length b.replicators ≡ length s.clusters
   pub receivers : length b.receivers ≡ length s.clusters
 
 -- a topic and its clusters are there
@@ -42,7 +42,7 @@ pub node_there : (s : Setup) (w : World) (t x : ℕ) → Sized s w → IsThere s
 node_there s w t x z h = let l = node_lt s t x h in let b = z.brokers in omega (arith, l, b)
 
 wide_kept : (s : Setup) (b b' : Broker) → SameSize b b' → IsWide s b → IsWide s b'
-wide_kept s b b' same h = record { senders = same.senders ∙ h.senders; receivers = same.receivers ∙ h.receivers }
+wide_kept s b b' same h = record { replicators = same.replicators ∙ h.replicators; receivers = same.receivers ∙ h.receivers }
 
 -- a world with one broker changed, which is as wide as before
 sized_set : (s : Setup) (w w' : World) (n : ℕ) (b : Broker) → w'.brokers ≡ slice_set w.brokers n b → SameSize (broker_at w n) b
@@ -138,7 +138,7 @@ sized_opening s = record {
   wide = λ t x there.
       let n = length s.clusters in
       subst (IsWide s) (sym (get_or-replicate (length s.topics * n) (node s t x) (new_broker n (length s.clients)) no_broker (node_lt s t x there)))
-      (record { senders = length-replicate n new_sender; receivers = length-replicate n None });
+      (record { replicators = length-replicate n new_replicator; receivers = length-replicate n None });
 }
 
 pub sized_kept : (s : Setup) → IsKept s (Sized s)

@@ -5,15 +5,15 @@ use Rattle.std.specs.Str.{bytes_eq}
 use Rattle.std.proofs.lemmas.Bool.{eqb-true, eq-eqb, false≢true}
 use Rattle.std.proofs.lemmas.Bool.Decides.{nat_tests}
 use Rattle.std.proofs.lemmas.Option.{same_Some, slice_get_within}
-use Rattle.world_laws.proofs.Types.{Entry, Frame, Out, Packet, Place, Position}
+use Rattle.world_laws.proofs.Types.{Entry, Frame, Out, Packet, ClusterRef, Position}
 use Rattle.world_laws.proofs.Types.frame
 use Rattle.world_laws.proofs.Types.peer
-use Rattle.geo_base.specs.Broker.{Broker, Site, receiver_at, sender_at}
+use Rattle.geo_base.specs.Broker.{Broker, Site, receiver_at, replicator_at}
 use Rattle.geo_base.specs.Entry.{with_origin}
 use Rattle.geo_base.specs.Forwarding.{closes, link_producer}
 use Rattle.geo_base.specs.Link.{Link}
 use Rattle.geo_base.specs.Plan.{Plan, done}
-use Rattle.geo_base.specs.Position.{nowhere}
+use Rattle.geo_base.specs.Position.{no_position}
 use Rattle.geo_base.specs.Receiver.{is_open}
 use Rattle.geo_base.specs.Topic.{accepts, next_position}
 use Rattle.geo_base.specs.World.{stamped}
@@ -22,10 +22,10 @@ use Rattle.world_laws.proofs.Replicating.Effects.{Each, done_session, done_size,
 use Rattle.world_laws.proofs.Replicating.InARow.{taken_in_a_row}
 use Rattle.world_laws.proofs.OnceInOrder.Members.{Stands, stands_here, stands_left}
 use Rattle.world_laws.proofs.OnceInOrder.Once.{OnceIn}
-use Rattle.world_laws.proofs.Replicating.Packets.{Asks, Carries, IsOpener, IsSend, Receives, same_entry, same_place}
+use Rattle.world_laws.proofs.Replicating.Packets.{Asks, Carries, IsOpener, IsSend, Receives, same_entry, same_cluster_ref}
 use Rattle.world_laws.proofs.Replicating.PairFacts.{Carried, IsAnswered, IsPlaced, Receiving, carried_far, none_open}
 use Rattle.world_laws.proofs.Replicating.Prefixes.{AllBefore, Begins, is_of, next_begins, of_out, refused_stands}
-use Rattle.world_laws.proofs.Replicating.SenderSide.{Facts}
+use Rattle.world_laws.proofs.Replicating.ReplicatorSide.{Facts}
 use Rattle.world_laws.proofs.Replicating.ReceiverSide.{Extends, extends_both, stands_after}
 use Rattle.world_laws.proofs.Walks.Walk.{right}
 use Rattle.world_laws.proofs.Walks.Shapes.{Fated, Taken}
@@ -62,7 +62,7 @@ receipt_number (frame.SendReceipt id n position) = n
 receipt_number f = zero
 
 -- the SEND at a place
-send_at : (sent : List Packet) (q : ℕ) (p : Packet) (id seq : ℕ) (source : Option Place) (e : Entry) → slice_get sent q ≡ Some p
+send_at : (sent : List Packet) (q : ℕ) (p : Packet) (id seq : ℕ) (source : Option ClusterRef) (e : Entry) → slice_get sent q ≡ Some p
     → p.frame ≡ frame.Send id seq source e → IsSend sent q p.session seq e
 send_at sent q p id seq source e at is = record { packet = p; at = at; carries = record { session = refl; id = id; source = source; is = is } }
 
@@ -79,7 +79,7 @@ own_origin : (x : ℕ) (e : Entry) → is_of x e ≡ true → with_origin x e �
 own_origin x e h = ap (λ (n : ℕ). with_origin n e) (sym (eqb-true e.ident.origin x h))
 
 -- what is taken of the open session goes on standing, with one more
-stands_on : (far far' : List Entry) (r : Option ℕ) (sent : List Packet) (c q : ℕ) (p : Packet) (id seq : ℕ) (source : Option Place) (e : Entry)
+stands_on : (far far' : List Entry) (r : Option ℕ) (sent : List Packet) (c q : ℕ) (p : Packet) (id seq : ℕ) (source : Option ClusterRef) (e : Entry)
     → slice_get sent q ≡ Some p → p.frame ≡ frame.Send id seq source e → q < length sent → q ≤ c → c ≤ q + 1 → ((f : Entry) → Stands far f → Stands far' f) → Stands far' e
     → Receiving r far sent c → Receiving r far' sent (q + 1)
 stands_on far far' r sent c q p id seq source e at is in_sent le ge more here h = record {
@@ -90,7 +90,7 @@ stands_on far far' r sent c q p id seq source e at is in_sent le ge more here h 
     by : (m : ℕ) → r ≡ Some m → (v k : ℕ) (f : Entry) → v < q + 1 → IsSend sent v m k f → (b : Bool) → (v == q) ≡ b → Stands far' f
     by m live v k f lt send true same =
         let P : ℕ → Type 0 = λ n. slice_get sent n ≡ Some send.packet in
-        let one : p ≡ send.packet = same_place sent q p send.packet at (subst P (eqb-true v q same) send.at) in
+        let one : p ≡ send.packet = same_cluster_ref sent q p send.packet at (subst P (eqb-true v q same) send.at) in
         let C : Packet → Type 0 = λ r. Carries r m k f in
         let E : Entry → Type 0 = λ g. Stands far' g in
         let mine : Carries p p.session seq e = record { session = refl; id = id; source = source; is = is } in
@@ -146,7 +146,7 @@ taken_once x y near cursor h b sent back c q p plan once opened at within le ge 
     discarded : (m : ℕ) → receiver_at b x ≡ Some m → (v k : ℕ) (e : Entry) → v < q + 1 → IsSend sent v m k e → (t : Bool) → (v == q) ≡ t → Stands b.entries e
     discarded m live v k e lt send true same =
         let P : ℕ → Type 0 = λ n. slice_get sent n ≡ Some send.packet in
-        let one : p ≡ send.packet = same_place sent q p send.packet at (subst P (eqb-true v q same) send.at) in
+        let one : p ≡ send.packet = same_cluster_ref sent q p send.packet at (subst P (eqb-true v q same) send.at) in
         let session : p.session ≡ m = ap (λ (r : Packet). r.session) one ∙ send.carries.session in
         let is : is_open (receiver_at b x) p.session ≡ true = ap (λ (o : Option ℕ). is_open o p.session) live ∙ eq-eqb m p.session (sym session) in
         absurd (false≢true (sym shut ∙ is))
@@ -177,7 +177,7 @@ taken_once x y near cursor h b sent back c q p plan once opened at within le ge 
     record {
       carried = carried;
       receiving = stands_on b.entries b.entries (receiver_at b x) sent c q p id seq source e at is within le ge (λ f s. s) here receiving;
-      answers = (receipt_ok b.entries sent q p seq e (record { to = peer.Back x; session = p.session; frame = frame.SendReceipt p.session seq (Some nowhere) }) (Some nowhere) send here refl refl, tt);
+      answers = (receipt_ok b.entries sent q p seq e (record { to = peer.Back x; session = p.session; frame = frame.SendReceipt p.session seq (Some no_position) }) (Some no_position) send here refl refl, tt);
     }
 
 -- a packet at its place, with what was taken so far
@@ -217,7 +217,7 @@ outs_later per b q sent outs h =
     outs h
 
 coming_first : (x y : ℕ) (a b : Broker) (f : Link) (back : List Packet) (p : Packet) → OnceIn a.entries → slice_get f.sent f.taken ≡ Some p → Facts x y a b f back
-    → Coming x y a.entries (sender_at a y).cursor b f.sent back f.taken f.taken p
+    → Coming x y a.entries (replicator_at a y).cursor b f.sent back f.taken f.taken p
 coming_first x y a b f back p once at h = record {
   once = once;
   opened = h.session.opened;
@@ -246,9 +246,9 @@ coming_again x y near cursor b b' sent back c q p outs k h = record {
 -- a packet with its fate
 pub taken_done : (x y : ℕ) (h : Site) (a b : Broker) (f : Link) (back : List Packet) (p : Packet) (plan : Plan) → OnceIn a.entries → x < length b.receivers
     → slice_get f.sent f.taken ≡ Some p → Fated h.per_ledger b (λ c. Taken h c x p) (closes x) plan → Facts x y a b f back
-    → HasTaken x y a.entries (sender_at a y).cursor (done h.per_ledger b plan).entries (receiver_at (done h.per_ledger b plan) x) f.sent back (f.taken + 1) plan.sent
+    → HasTaken x y a.entries (replicator_at a y).cursor (done h.per_ledger b plan).entries (receiver_at (done h.per_ledger b plan) x) f.sent back (f.taken + 1) plan.sent
 taken_done x y h a b f back p plan once lt at (Fated.Once q t) facts =
-    taken_one x y a.entries (sender_at a y).cursor h b f.sent back f.taken f.taken p q lt (coming_first x y a b f back p once at facts) t
+    taken_one x y a.entries (replicator_at a y).cursor h b f.sent back f.taken f.taken p q lt (coming_first x y a b f back p once at facts) t
 taken_done x y h a b f back p plan once lt at Fated.Lost facts =
     let R : Option ℕ → Type 0 = λ o. Receiving o b.entries f.sent (f.taken + 1) in
     let w = slice_get_within f.sent f.taken p at in
@@ -259,7 +259,7 @@ taken_done x y h a b f back p plan once lt at Fated.Lost facts =
       answers = tt;
     }
 taken_done x y h a b f back p plan once lt at (Fated.Twice q q' t t') facts =
-    let near = a.entries in let cursor = (sender_at a y).cursor in
+    let near = a.entries in let cursor = (replicator_at a y).cursor in
     let b' = done h.per_ledger b q in
     let first = coming_first x y a b f back p once at facts in
     let one = taken_one x y near cursor h b f.sent back f.taken f.taken p q lt first t in
@@ -273,7 +273,7 @@ taken_done x y h a b f back p plan once lt at (Fated.Twice q q' t t') facts =
       answers = each_both (OkOut (done h.per_ledger b' q').entries f.sent) q.sent q'.sent (outs_later h.per_ledger b' q' f.sent q.sent one.answers) two.answers;
     })
 
--- each append of it leaves a beginning, also where a stop comes behind it
+-- each append of it leaves a beginning, also where a stop comes after it
 taken_extends : (x y : ℕ) (near : List Entry) (h : Site) (b : Broker) (p : Packet) (plan : Plan) → Taken h b x p plan
     → Begins x y near (after_writes b.entries plan.writes) → Extends x y near b.entries plan.writes
 taken_extends x y near h b p plan (Taken.Stores id seq source e is live may new) begins = (begins, tt)
@@ -292,10 +292,10 @@ pub fated_extends : (x y : ℕ) (h : Site) (a b : Broker) (f : Link) (back : Lis
     → slice_get f.sent f.taken ≡ Some p → Fated h.per_ledger b (λ c. Taken h c x p) (closes x) plan → Facts x y a b f back
     → Extends x y a.entries b.entries plan.writes
 fated_extends x y h a b f back p plan once lt at (Fated.Once q t) facts =
-    one_extends x y a.entries (sender_at a y).cursor h b f.sent back f.taken f.taken p q (coming_first x y a b f back p once at facts) t
+    one_extends x y a.entries (replicator_at a y).cursor h b f.sent back f.taken f.taken p q (coming_first x y a b f back p once at facts) t
 fated_extends x y h a b f back p plan once lt at Fated.Lost facts = tt
 fated_extends x y h a b f back p plan once lt at (Fated.Twice q q' t t') facts =
-    let near = a.entries in let cursor = (sender_at a y).cursor in
+    let near = a.entries in let cursor = (replicator_at a y).cursor in
     let b' = done h.per_ledger b q in
     let first = coming_first x y a b f back p once at facts in
     let one = taken_one x y near cursor h b f.sent back f.taken f.taken p q lt first t in

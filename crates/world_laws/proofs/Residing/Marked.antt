@@ -1,12 +1,12 @@
--- What a sender's mark counts stands at the other cluster, and what that lacks is the last of it.
-use Rattle.std.proofs.Common.{◌≡◌, ℕ, zero, suc, ◌+◌, ◌-◌, ◌<◌, ◌≤◌, true, List, [], ◌∷◌, ◌++◌, length, refl, sym, ap, subst, ◌∙◌, arith, inl, inr, ◌⊎◌, length-append}
+-- What a replicator's mark counts stands at the other cluster, and what that lacks is the last of it.
+use Rattle.std.proofs.Common.{◌≡◌, ℕ, zero, ◌+◌, ◌-◌, ◌<◌, ◌≤◌, true, List, [], ◌∷◌, ◌++◌, length, refl, sym, ap, subst, ◌∙◌, arith, inl, inr, ◌⊎◌, length-append}
 use Rattle.std.specs.Prelude.{Some, drop, slice_get, take}
 use Rattle.std.proofs.lemmas.List.Elements.{filter-append}
 use Rattle.std.proofs.lemmas.List.Sums.{count_by-le-length, length-filter}
 use Rattle.std.proofs.lemmas.List.{length-drop, take-append-drop}
-use Rattle.std.proofs.lemmas.Option.{none-some, slice_get_within}
+use Rattle.std.proofs.lemmas.Option.{slice_get_within}
 use Rattle.world_laws.proofs.Types.{Entry}
-use Rattle.geo_base.specs.Broker.{sender_at}
+use Rattle.geo_base.specs.Broker.{replicator_at}
 use Rattle.geo_base.specs.Cursor.{mark}
 use Rattle.geo_base.specs.Entry.{is_outbound}
 use Rattle.geo_base.specs.Laws.{IsPrefix, of_origin, outbound}
@@ -23,14 +23,9 @@ use Rattle.world_laws.proofs.Replicating.Prefixes.{Begins, InOrder, filter_order
 use Rattle.world_laws.proofs.Residing.Resident.{Shows, shows, shows_written}
 use Rattle.world_laws.proofs.Snapshotting.Positions.{Answered, answered_kept}
 use Rattle.world_laws.proofs.Telling.Passing.{below_mark}
+use Rattle.geo_base.proofs.Lists.{get_of_take}
 
 -- ---- lists
-
-taken_get : {X : Type 0} (n : ℕ) (xs : List X) (j : ℕ) (x : X) → slice_get (take n xs) j ≡ Some x → (j < n) × (slice_get xs j ≡ Some x)
-taken_get zero xs j x h = absurd (none-some x h)
-taken_get (suc n) [] j x h = absurd (none-some x h)
-taken_get (suc n) (a ∷ xs) zero x h = (omega arith, h)
-taken_get (suc n) (a ∷ xs) (suc j) x h = let r = taken_get n xs j x h in (let lt = r.0 in omega (arith, lt), r.1)
 
 -- of two beginnings of one list the second goes on past the first, or what is left after the first is no longer than what is left after the
 -- second
@@ -55,7 +50,7 @@ two_ways {X = X} (a ∷ A) rest (b ∷ B) C is =
 stands_below : (s : Setup) (w : World) → Shows s w → StandsBelow s w
 stands_below s w h t x y i e pair lt at out =
     let there = entry_there s w t x i e h.size pair.0 at in
-    let cursor = (sender_at (topic_at s w t x) y).cursor in
+    let cursor = (replicator_at (topic_at s w t x) y).cursor in
     let r = (h.carried t x y there.0 pair).received i e (below_mark cursor zero i (omega arith) lt) at out in (r.place, r.is)
 
 -- the beginning at y does not end before the mark
@@ -83,13 +78,13 @@ lacks_few x y m near far begins once all =
     elim (two_ways A begins.0 (outbound x y before) (outbound x y after) both) [
       | inl le ↦ let size = length-drop m near in let counted = length-filter (is_outbound x y) after in let most = count_by-le-length (is_outbound x y) after in
           omega (arith, le, counted, most, size)
-      | inr g ↦ absurd (not_shorter x y near far before after whole once (λ j f at out. let r = taken_get m near j f at in all j f r.0 r.1 out) g)
+      | inr g ↦ absurd (not_shorter x y near far before after whole once (λ j f at out. let r = get_of_take m near j f at in all j f r.0 r.1 out) g)
     ]
 
 lacks_at_most : (s : Setup) (w : World) → Shows s w → IsPrefix s w → LacksAtMost s w
 lacks_at_most s w h prefix t x y pair =
     let near = (topic_at s w t x).entries in let far = (topic_at s w t y).entries in let begins = prefix t x y pair in
-    let m = mark (sender_at (topic_at s w t x) y).cursor in
+    let m = mark (replicator_at (topic_at s w t x) y).cursor in
     (begins.0, begins.1, lacks_few x y m near far begins (h.once (node s t x)) (λ j g lt at out. let r = stands_below s w h t x y j g pair lt at out in record { place = r.0; is = r.1 }))
 
 marked : (s : Setup) (w : World) → Shows s w → IsPrefix s w → IsMarked s w

@@ -3,7 +3,7 @@ use Rattle.std.proofs.Common.{◌≡◌, ℕ, ◌*◌, ◌<◌, Bool, true, fals
 use Rattle.std.specs.Prelude.{Some}
 use Rattle.std.proofs.lemmas.Bool.{eq-eqb, eqb-false}
 use Rattle.std.proofs.lemmas.List.{length-set}
-use Rattle.geo_base.specs.Broker.{sender_at}
+use Rattle.geo_base.specs.Broker.{replicator_at}
 use Rattle.geo_base.specs.Entry.{goes_to, meant_for}
 use Rattle.geo_base.specs.Laws.{ArePair}
 use Rattle.geo_base.specs.Moments.{partly_written}
@@ -34,7 +34,7 @@ pub record Shows (s : Setup) (w : World) : Type 0 where
   pub answers : Everywhere s (AnswersAt s) w
   pub once : AllOnce w
   pub carried : (t x y : ℕ) → t < length s.topics → ArePair s x y
-      → Carried x y (topic_at s w t x).entries (sender_at (topic_at s w t x) y).cursor (topic_at s w t y).entries (link_at w.links (Forward (node s t x) y)).sent (link_at w.links (Back (node s t x) y)).sent
+      → Carried x y (topic_at s w t x).entries (replicator_at (topic_at s w t x) y).cursor (topic_at s w t y).entries (link_at w.links (Forward (node s t x) y)).sent (link_at w.links (Back (node s t x) y)).sent
 
 pub shows : (s : Setup) (w : World) → Answered s w → Shows s w
 shows s w h = record { size = h.0.0.sized.brokers; answers = h.1; once = h.0.0.once; carried = λ t x y lt pair. (h.0.0.pairs t x y lt pair).carried }

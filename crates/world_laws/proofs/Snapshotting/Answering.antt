@@ -4,17 +4,17 @@ use Rattle.std.proofs.Common.{◌≡◌, ℕ, zero, suc, ◌+◌, ◌-◌, ◌^�
 use Rattle.std.specs.Prelude.{Some, slice_get, is_some}
 use Rattle.std.proofs.lemmas.Bool.{eqb-true, false≢true}
 use Rattle.std.proofs.lemmas.Option.{none-some, same_Some, slice_get_within}
-use Rattle.world_laws.proofs.Types.{Change, ClusterPosition, Content, Entry, Place, Position, Write}
+use Rattle.world_laws.proofs.Types.{Change, ClusterPosition, Content, Entry, ClusterRef, Position, Write}
 use Rattle.world_laws.proofs.Types.change
 use Rattle.world_laws.proofs.Types.content
 use Rattle.world_laws.proofs.Types.marker
-use Rattle.world_laws.proofs.Types.place
+use Rattle.world_laws.proofs.Types.cluster_ref
 use Rattle.world_laws.proofs.Types.targets
 use Rattle.world_laws.proofs.Types.write
 use Rattle.geo_base.specs.Broker.{Broker, Site, changed, sub_named, written}
 use Rattle.geo_base.specs.Entry.{is_data}
 use Rattle.geo_base.specs.Plan.{all_written}
-use Rattle.geo_base.specs.Position.{nowhere}
+use Rattle.geo_base.specs.Position.{no_position}
 use Rattle.geo_base.specs.Setup.{Setup}
 use Rattle.geo_base.specs.Topic.{grown, index_of, position_at}
 use Rattle.geo_base.specs.World.{site}
@@ -28,7 +28,7 @@ use Rattle.world_laws.proofs.Walks.Walk.{on_if}
 
 -- a request of an id
 abbrev pub Asks : List ℕ → Entry → Type 0
-Asks id e = (source : Place) × (e.content ≡ content.Marked (marker.Request id source))
+Asks id e = (source : ClusterRef) × (e.content ≡ content.Marked (marker.Request id source))
 
 -- an own request of x stands at index k
 pub record RequestAt (x : ℕ) (es : List Entry) (k : ℕ) (id : List ℕ) : Type 0 where
@@ -66,8 +66,8 @@ pub record Answering (n x : ℕ) (es : List Entry) (ls : List ℕ) : Type 0 wher
   pub numbered : Numbered es ls
   pub origins : (k : ℕ) (e : Entry) → slice_get es k ≡ Some e → e.ident.origin < n
   pub answers : AllAnswers n x es ls
-  pub sources : (k : ℕ) (e : Entry) (id : List ℕ) (source : Place) → slice_get es k ≡ Some e → is_of x e ≡ true → e.content ≡ content.Marked (marker.Request id source)
-      → source ≡ place.Known x
+  pub sources : (k : ℕ) (e : Entry) (id : List ℕ) (source : ClusterRef) → slice_get es k ≡ Some e → is_of x e ≡ true → e.content ≡ content.Marked (marker.Request id source)
+      → source ≡ cluster_ref.Known x
 
 -- WRITES
 
@@ -176,9 +176,9 @@ abbrev pub is_request : Content → Bool
 is_request (content.Marked (marker.Request id source)) = true
 is_request c = false
 
-abbrev source_of : Content → Place
+abbrev source_of : Content → ClusterRef
 source_of (content.Marked (marker.Request id source)) = source
-source_of c = place.Known 0
+source_of c = cluster_ref.Known 0
 
 abbrev is_response : Content → Bool
 is_response (content.Marked (marker.Response id answer)) = true
@@ -190,7 +190,7 @@ answered_id c = []
 
 abbrev named_position : Content → Position
 named_position (content.Marked (marker.Response id answer)) = answer.position
-named_position c = nowhere
+named_position c = no_position
 
 -- GROWTH
 
@@ -238,8 +238,8 @@ new_answer h b more ls' id answer e steady numbered of is (Added.Responded y i f
     }
 
 -- a new own request says whose it is
-new_source : (h : Site) (b : Broker) (id : List ℕ) (source : Place) (e : Entry) → is_of h.own e ≡ true → e.content ≡ content.Marked (marker.Request id source)
-    → Added h b e → source ≡ place.Known h.own
+new_source : (h : Site) (b : Broker) (id : List ℕ) (source : ClusterRef) (e : Entry) → is_of h.own e ≡ true → e.content ≡ content.Marked (marker.Request id source)
+    → Added h b e → source ≡ cluster_ref.Known h.own
 new_source h b id source e of is (Added.Published e' own message) = absurd (false≢true (sym (ap is_data is) ∙ message))
 new_source h b id source e of is (Added.Came e' z small other from) = absurd (not_own h.own z e other from of)
 new_source h b id source e of is (Added.Asked none) = sym (ap source_of is)

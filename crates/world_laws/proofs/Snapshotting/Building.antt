@@ -1,15 +1,15 @@
 -- What an event does with the snapshot that is being made: whether it appends an own request, and what becomes of the builder.
 use Rattle.std.proofs.Common.{◌≡◌, ℕ, zero, suc, ◌+◌, Bool, true, false, List, [], ◌∷◌, ◌++◌, length, refl, sym, ap, subst, ◌∙◌, ◌==◌}
 use Rattle.std.specs.Prelude.{Option, Some, None, ◌&&◌, ◌||◌, is_some, nat_lt, take, slice_get}
-use Rattle.std.proofs.lemmas.Bool.{eqb-true, false≢true, ltb-true}
+use Rattle.std.proofs.lemmas.Bool.{false≢true, ltb-true}
 use Rattle.std.proofs.lemmas.List.{append-nil}
-use Rattle.world_laws.proofs.Types.{Builder, CachedSnapshot, Change, ClusterPosition, Content, Entry, Packet, Position, Progress, Write}
+use Rattle.world_laws.proofs.Types.{SnapshotBuilder, CachedSnapshot, Change, ClusterPosition, Content, Entry, Packet, Position, Progress, Write}
 use Rattle.world_laws.proofs.Types.change
 use Rattle.world_laws.proofs.Types.content
 use Rattle.world_laws.proofs.Types.progress
 use Rattle.world_laws.proofs.Types.write
 use Rattle.geo_base.specs.Broker.{Broker, Site, changed, cluster_name, sub_named, written}
-use Rattle.geo_base.specs.Builder.{Heard, counts, current_id, judged, on_response, snapshot_id, with_response}
+use Rattle.geo_base.specs.SnapshotBuilder.{Heard, counts, current_id, judged, on_response, snapshot_id, with_response}
 use Rattle.geo_base.specs.Entry.{is_data}
 use Rattle.geo_base.specs.Forwarding.{closes}
 use Rattle.geo_base.specs.Markers.{asks, request_marker}
@@ -29,15 +29,17 @@ use Rattle.world_laws.proofs.TopicOrder.NoSelf.{NoSelf}
 use Rattle.world_laws.proofs.Replicating.Prefixes.{is_of}
 use Rattle.world_laws.proofs.Walks.Shapes.{Answered, Fated, Hears, IsResponse, IsSnapshot, Offers, Reads, ReadsNext, Seeks, Served, Shape, Snaps, Taken, Updates}
 use Rattle.world_laws.proofs.Walks.Walk.{on_if}
+pub use Rattle.geo_base.proofs.Bools.{and_no_second as other_silent}
+pub use Rattle.geo_base.proofs.Sums.{eq_apart as differ}
 
 -- THE BUILDER
 
-abbrev builder_changed : Option Builder → Change → Option Builder
+abbrev builder_changed : Option SnapshotBuilder → Change → Option SnapshotBuilder
 builder_changed o (change.Building u) = u
 builder_changed o change.Forget = None
 builder_changed o c = o
 
-abbrev pub builder_then : Option Builder → List Change → Option Builder
+abbrev pub builder_then : Option SnapshotBuilder → List Change → Option SnapshotBuilder
 builder_then o [] = o
 builder_then o (c ∷ cs) = builder_then (builder_changed o c) cs
 
@@ -47,7 +49,7 @@ changed_builder b c = refl
 
 all_changed_builder : (b : Broker) (cs : List Change) → (all_changed b cs).builder ≡ builder_then b.builder cs
 all_changed_builder b [] = refl
-all_changed_builder b (c ∷ cs) = all_changed_builder (changed b c) cs ∙ ap (λ (o : Option Builder). builder_then o cs) (changed_builder b c)
+all_changed_builder b (c ∷ cs) = all_changed_builder (changed b c) cs ∙ ap (λ (o : Option SnapshotBuilder). builder_then o cs) (changed_builder b c)
 
 written_builder : (per : ℕ) (b : Broker) (w : Write) → (written per b w).builder ≡ b.builder
 written_builder per b (write.Create n kind replicated latest) = on_if (λ (c : Broker). c.builder ≡ b.builder) (is_some (sub_named b.subs n)) _ _ refl refl
@@ -59,7 +61,7 @@ all_written_builder per b (w ∷ ws) = all_written_builder per (written per b w)
 
 pub done_builder : (per : ℕ) (b : Broker) (p : Plan) → (done per b p).builder ≡ builder_then b.builder p.changes
 done_builder per b p =
-    all_changed_builder (all_written per b p.writes) p.changes ∙ ap (λ (o : Option Builder). builder_then o p.changes) (all_written_builder per b p.writes)
+    all_changed_builder (all_written per b p.writes) p.changes ∙ ap (λ (o : Option SnapshotBuilder). builder_then o p.changes) (all_written_builder per b p.writes)
 
 -- what comes into a cache is a snapshot that stands here
 pub record IsCached (h : Site) (b : Broker) (c : CachedSnapshot) : Type 0 where
@@ -80,14 +82,14 @@ QuietChange h b (change.Building u) = ⊥
 QuietChange h b change.Forget = ⊥
 QuietChange h b c = CacheChange h b c
 
-quiet_one : (h : Site) (b : Broker) (o : Option Builder) (c : Change) → QuietChange h b c → builder_changed o c ≡ o
+quiet_one : (h : Site) (b : Broker) (o : Option SnapshotBuilder) (c : Change) → QuietChange h b c → builder_changed o c ≡ o
 quiet_one h b o (change.Building u) q = absurd q
 quiet_one h b o change.Forget q = absurd q
 quiet_one h b o c q = refl
 
-pub quiet_builder : (h : Site) (b : Broker) (o : Option Builder) (cs : List Change) → Each (QuietChange h b) cs → builder_then o cs ≡ o
+pub quiet_builder : (h : Site) (b : Broker) (o : Option SnapshotBuilder) (cs : List Change) → Each (QuietChange h b) cs → builder_then o cs ≡ o
 quiet_builder h b o [] q = refl
-quiet_builder h b o (c ∷ cs) q = ap (λ (p : Option Builder). builder_then p cs) (quiet_one h b o c q.0) ∙ quiet_builder h b o cs q.1
+quiet_builder h b o (c ∷ cs) q = ap (λ (p : Option SnapshotBuilder). builder_then p cs) (quiet_one h b o c q.0) ∙ quiet_builder h b o cs q.1
 
 quiet_cache : (h : Site) (b : Broker) (c : Change) → QuietChange h b c → CacheChange h b c
 quiet_cache h b (change.Building u) q = absurd q
@@ -113,9 +115,9 @@ pub data Building (h : Site) (b : Broker) : Plan → Type 0 where
   Leaves : (p : Plan) → Silent h.own p.writes → Each (QuietChange h b) p.changes → Building h b p
   Ends : (p : Plan) → Silent h.own p.writes → builder_then b.builder p.changes ≡ None → Each (CacheChange h b) p.changes → Building h b p
   Begins : b.builder ≡ None → Building h b (asks h b (snapshot_id (cluster_name h h.own) (next_position h.per_ledger b.ledgers)))
-  Counts : (y i : ℕ) (e : Entry) (id : List ℕ) (answer : ClusterPosition) (u u' : Builder) → ReadsNext h b y i e → IsResponse h b y e id answer u
+  Counts : (y i : ℕ) (e : Entry) (id : List ℕ) (answer : ClusterPosition) (u u' : SnapshotBuilder) → ReadsNext h b y i e → IsResponse h b y e id answer u
       → Hears b y i id answer u progress.Kept u' → Building h b (handled y i [] (change.Building (Some u') ∷ []))
-  AsksAgain : (y i : ℕ) (e : Entry) (id : List ℕ) (answer : ClusterPosition) (u u' : Builder) → ReadsNext h b y i e → IsResponse h b y e id answer u
+  AsksAgain : (y i : ℕ) (e : Entry) (id : List ℕ) (answer : ClusterPosition) (u u' : SnapshotBuilder) → ReadsNext h b y i e → IsResponse h b y e id answer u
       → Hears b y i id answer u progress.SecondRound u'
       → Building h b (handled y i (write.Append (request_marker h b (current_id u')) ∷ []) (change.Building (Some u') ∷ []))
 
@@ -123,17 +125,6 @@ data_silent : (c : Content) (t : Bool) → is_data c ≡ true → (is_request c 
 data_silent content.Data t h = refl
 data_silent (content.Marked m) t h = absurd (false≢true h)
 data_silent (content.Unread k) t h = absurd (false≢true h)
-
-pub other_silent : (t u : Bool) → u ≡ false → (t && u) ≡ false
-other_silent true u h = h
-other_silent false u h = refl
-
-pub differ : (x y : ℕ) → (x ≡ y → ⊥) → (x == y) ≡ false
-differ x y other = by (x == y) refl
-  where
-    by : (t : Bool) → (x == y) ≡ t → t ≡ false
-    by true e = absurd (other (eqb-true x y e))
-    by false e = refl
 
 updates_silent : (h : Site) (b : Broker) (v : Subscription) (ws : List Write) → Updates h b v ws → Silent h.own ws
 updates_silent h b v ws Updates.NoUpdate = tt
@@ -199,8 +190,8 @@ reads_building h b y q (Reads.Counts i e id answer u u' next is heard) = Buildin
 reads_building h b y q (Reads.AsksAgain i e id answer u u' next is heard) = Building.AsksAgain y i e id answer u u' next is heard
 reads_building h b y q (Reads.Completes i e id answer u u' next is heard) = Building.Ends q (refl, (tt, tt)) refl (tt, (tt, tt))
 reads_building h b y q (Reads.CreatesAt i j e n remote next is named) = Building.Leaves q (tt, (tt, (tt, tt))) (tt, (tt, tt))
-reads_building h b y q (Reads.PassesOver i j e n remote v ws next is named after) =
-    Building.Leaves q (tt, each_both (SilentWrite h.own) ws (write.SenderAck y i ∷ []) (updates_silent h b _ ws after) (tt, tt)) (tt, (tt, tt))
+reads_building h b y q (Reads.ActsOnUpdate i j e n remote v ws next is named after) =
+    Building.Leaves q (tt, each_both (SilentWrite h.own) ws (write.ReplicatorAck y i ∷ []) (updates_silent h b _ ws after) (tt, tt)) (tt, (tt, tt))
 
 snaps_building : (h : Site) (b : Broker) (q : Plan) → Snaps h b q → Building h b q
 snaps_building h b q Snaps.NothingToAsk = Building.Leaves q tt tt
@@ -209,7 +200,7 @@ snaps_building h b q (Snaps.Asks any none) = Building.Begins none
 offers_building : (h : Site) (b : Broker) (n : List ℕ) (q : Plan) → Offers h b n q → Building h b q
 offers_building h b n q Offers.NothingToOffer = Building.Leaves q tt tt
 offers_building h b n q (Offers.Gives v i at e due is picked) = Building.Leaves q tt (tt, tt)
-offers_building h b n q (Offers.PassesBy v i e ws due is after) = Building.Leaves q (tt, updates_silent h b _ ws after) (tt, (tt, tt))
+offers_building h b n q (Offers.SkipsMarker v i e ws due is after) = Building.Leaves q (tt, updates_silent h b _ ws after) (tt, (tt, tt))
 offers_building h b n q (Offers.Caches v i j e c ws due is after) =
     Building.Leaves q (tt, updates_silent h b _ ws after) (record { sub = v; place = i; local = j; entry = e; stands = due.2; is = is }, (tt, (tt, tt)))
 
@@ -253,7 +244,7 @@ pub data Requests (h : Site) (b : Broker) : List Write → Type 0 where
   NoRequest : (ws : List Write) → Silent h.own ws → Requests h b ws
   First : (ws : List Write) → appended ws ≡ []
       → Requests h b (write.Append (request_marker h b (snapshot_id (cluster_name h h.own) (next_position h.per_ledger b.ledgers))) ∷ ws)
-  Second : (y i : ℕ) (id : List ℕ) (answer : ClusterPosition) (u u' : Builder) → b.builder ≡ Some u → Hears b y i id answer u progress.SecondRound u'
+  Second : (y i : ℕ) (id : List ℕ) (answer : ClusterPosition) (u u' : SnapshotBuilder) → b.builder ≡ Some u → Hears b y i id answer u progress.SecondRound u'
       → (ws : List Write) → appended ws ≡ [] → Requests h b (write.Append (request_marker h b (current_id u')) ∷ ws)
 
 pub building_requests : (h : Site) (b : Broker) (p : Plan) → Building h b p → Requests h b p.writes
@@ -261,7 +252,7 @@ building_requests h b p (Building.Leaves q silent quiet) = Requests.NoRequest _ 
 building_requests h b p (Building.Ends q silent ends caches) = Requests.NoRequest _ silent
 building_requests h b p (Building.Begins none) = Requests.First [] refl
 building_requests h b p (Building.Counts y i e id answer u u' next is heard) = Requests.NoRequest _ (tt, tt)
-building_requests h b p (Building.AsksAgain y i e id answer u u' next is heard) = Requests.Second y i id answer u u' is.2 heard (write.SenderAck y i ∷ []) refl
+building_requests h b p (Building.AsksAgain y i e id answer u u' next is heard) = Requests.Second y i id answer u u' is.2 heard (write.ReplicatorAck y i ∷ []) refl
 
 abbrev is_empty : List Entry → Bool
 is_empty [] = true
@@ -299,24 +290,24 @@ abbrev is_second : Progress → Bool
 is_second progress.SecondRound = true
 is_second g = false
 
-pub record Later (u : Builder) (r : Heard) : Type 0 where
+pub record Later (u : SnapshotBuilder) (r : Heard) : Type 0 where
   pub same : r.builder.id ≡ u.id
   pub later : r.builder.second ≡ false → u.second ≡ false
   pub begins : is_second r.progress ≡ true → r.builder.second ≡ true
 
-judged_later : (u : Builder) → Later u (judged u)
+judged_later : (u : SnapshotBuilder) → Later u (judged u)
 judged_later u =
     on_if (Later u) (nat_lt (length u.heard + 1) u.clusters) _ _ (record { same = refl; later = λ h. h; begins = λ h. absurd (false≢true h) })
     (on_if (Later u) (u.second || (u.clusters == 2)) _ _ (record { same = refl; later = λ h. h; begins = λ h. absurd (false≢true h) })
     (record { same = refl; later = λ h. absurd (false≢true (sym h)); begins = λ h. refl }))
 
-pub response_later : (u : Builder) (id : List ℕ) (c : ℕ) (remote local : Position) → Later u (on_response u id c remote local)
+pub response_later : (u : SnapshotBuilder) (id : List ℕ) (c : ℕ) (remote local : Position) → Later u (on_response u id c remote local)
 response_later u id c remote local =
     let j = judged_later (with_response u c remote local) in
     on_if (Later u) (counts u id c) _ _ (record { same = j.same; later = j.later; begins = j.begins })
     (record { same = refl; later = λ h. h; begins = λ h. absurd (false≢true h) })
 
 -- the builder that a response left, in round two where it began that
-pub heard_later : (b : Broker) (y i : ℕ) (id : List ℕ) (answer : ClusterPosition) (g : Progress) (u u' : Builder) → Hears b y i id answer u g u'
+pub heard_later : (b : Broker) (y i : ℕ) (id : List ℕ) (answer : ClusterPosition) (g : Progress) (u u' : SnapshotBuilder) → Hears b y i id answer u g u'
     → Later u (record { progress = g; builder = u' })
 heard_later b y i id answer g u u' heard = subst (Later u) heard (response_later u id y answer.position (position_at b.ledgers i))

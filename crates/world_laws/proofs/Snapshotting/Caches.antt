@@ -10,7 +10,7 @@ use Rattle.world_laws.proofs.Types.write
 use Rattle.geo_base.specs.Broker.{Broker, changed, sub_named, written}
 use Rattle.geo_base.specs.Cache.{any_passed, cached, most_cached, not_passed}
 use Rattle.geo_base.specs.Cursor.{below, mark}
-use Rattle.geo_base.specs.Dispatcher.{given, passed_index}
+use Rattle.geo_base.specs.Dispatcher.{given, skipped_index}
 use Rattle.geo_base.specs.Plan.{all_changed, all_written}
 use Rattle.geo_base.specs.Subscription.{Subscription, after_acks, attached, cleared, detached, new_subscription, permitted, sought, with_acks}
 use Rattle.world_laws.proofs.Replicating.Effects.{Each}
@@ -59,7 +59,7 @@ written_cached F per b (write.Delete n) all = λ k v at.
 written_cached F per b (write.Acks n is) all = named_mapped F n (with_acks is) (λ v p. p) b.subs all
 written_cached F per b (write.Seek n i) all = named_mapped F n (sought i) (λ v p. p) b.subs all
 written_cached F per b (write.Append e) all = all
-written_cached F per b (write.SenderAck y i) all = all
+written_cached F per b (write.ReplicatorAck y i) all = all
 written_cached F per b (write.SessionNumber y n) all = all
 written_cached F per b write.Ledger all = all
 
@@ -98,7 +98,7 @@ pub changed_cached : (F : CachedSnapshot → Type 0) (b : Broker) (c : Change) �
 changed_cached F b (change.Attach n k) new all = named_mapped F n (attached k) (λ v p. p) b.subs all
 changed_cached F b (change.Detach c) new all = mapped F (detached c) (λ v p. p) b.subs all
 changed_cached F b (change.Permit n c permits) new all = named_mapped F n (permitted c permits) (λ v p. p) b.subs all
-changed_cached F b (change.Passed n i) new all = named_mapped F n (passed_index i) (λ v p. p) b.subs all
+changed_cached F b (change.Skipped n i) new all = named_mapped F n (skipped_index i) (λ v p. p) b.subs all
 changed_cached F b (change.Given n i at) new all = named_mapped F n (given i at) (λ v p. p) b.subs all
 changed_cached F b (change.Cache n c) new all =
     named_mapped F n (λ (s : Subscription). record s { cache = cached s.cache c }) (λ v p. cached_all F v.cache c p new) b.subs all

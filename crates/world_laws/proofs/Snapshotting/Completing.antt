@@ -5,11 +5,11 @@ use Rattle.std.proofs.Math.Nat.{div-eq_of_lt}
 use Rattle.std.proofs.lemmas.Bool.{eqb-true, false≢true}
 use Rattle.std.proofs.lemmas.Bool.Decides.{nat_tests}
 use Rattle.std.proofs.lemmas.Nat.{div-mul-add, mod-mul-add, pow-add, pow_below, pow_pos}
-use Rattle.world_laws.proofs.Types.{Builder, ClusterPosition, Position, Progress}
+use Rattle.world_laws.proofs.Types.{SnapshotBuilder, ClusterPosition, Position, Progress}
 use Rattle.world_laws.proofs.Types.progress
 use Rattle.world_laws.proofs.Types.targets
 use Rattle.geo_base.specs.Broker.{Broker}
-use Rattle.geo_base.specs.Builder.{Heard, counts, judged, on_response, with_response}
+use Rattle.geo_base.specs.SnapshotBuilder.{Heard, counts, judged, on_response, with_response}
 use Rattle.geo_base.specs.Cuts.{CoversCluster, IsCut}
 use Rattle.geo_base.specs.Entry.{goes_to}
 use Rattle.geo_base.specs.Setup.{Setup}
@@ -25,6 +25,7 @@ use Rattle.world_laws.proofs.Walks.Shapes.{Hears}
 use Rattle.world_laws.proofs.Replicating.Sizes.{IsThere}
 use Rattle.world_laws.proofs.Snapshotting.SnapshotFacts.{Around, CoversAll, Finished, Made, cut_done}
 use Rattle.world_laws.proofs.Walks.Walk.{on_if, on_test}
+use Rattle.geo_base.proofs.Bools.{or_cases}
 
 plus_nothing : (n : ℕ) → n ≡ n + 0
 plus_nothing n = omega arith
@@ -53,7 +54,7 @@ goes_only x z h =
         false≢true (subst P rest h)
 
 -- a builder whose last round is over
-pub record Over (u : Builder) : Type 0 where
+pub record Over (u : SnapshotBuilder) : Type 0 where
   pub heard : nat_lt (length u.heard + 1) u.clusters ≡ false
   pub last : (u.second ≡ true) ⊎ (u.clusters ≡ 2)
 
@@ -61,25 +62,21 @@ abbrev is_done : Progress → Bool
 is_done progress.Done = true
 is_done g = false
 
-either : (t u : Bool) → (t || u) ≡ true → (t ≡ true) ⊎ (u ≡ true)
-either true u h = inl refl
-either false u h = inr h
-
 abbrev OverIfDone : Heard → Type 0
 OverIfDone r = is_done r.progress ≡ true → Over r.builder
 
-judged_over : (u : Builder) → OverIfDone (judged u)
+judged_over : (u : SnapshotBuilder) → OverIfDone (judged u)
 judged_over u =
     on_test OverIfDone (nat_lt (length u.heard + 1) u.clusters) _ _ (λ more is. absurd (false≢true is))
     (λ ended. on_test OverIfDone (u.second || (u.clusters == 2)) _ _
-    (λ last is. record { heard = ended; last = elim (either u.second (u.clusters == 2) last) [ inl second ↦ inl second | inr two ↦ inr (eqb-true u.clusters 2 two) ] })
+    (λ last is. record { heard = ended; last = elim (or_cases u.second (u.clusters == 2) last) [ inl second ↦ inl second | inr two ↦ inr (eqb-true u.clusters 2 two) ] })
     (λ more is. absurd (false≢true is)))
 
-response_over : (u : Builder) (id : List ℕ) (c : ℕ) (remote local : Position) → OverIfDone (on_response u id c remote local)
+response_over : (u : SnapshotBuilder) (id : List ℕ) (c : ℕ) (remote local : Position) → OverIfDone (on_response u id c remote local)
 response_over u id c remote local =
     on_if OverIfDone (counts u id c) _ _ (judged_over (with_response u c remote local)) (λ is. absurd (false≢true is))
 
-pub heard_over : (b : Broker) (y i : ℕ) (id : List ℕ) (answer : ClusterPosition) (u u' : Builder) → Hears b y i id answer u progress.Done u' → Over u'
+pub heard_over : (b : Broker) (y i : ℕ) (id : List ℕ) (answer : ClusterPosition) (u u' : SnapshotBuilder) → Hears b y i id answer u progress.Done u' → Over u'
 heard_over b y i id answer u u' heard = subst OverIfDone heard (response_over u id y answer.position (position_at b.ledgers i)) refl
 
 -- all topics of a name, in a world
@@ -98,7 +95,7 @@ around s w t x k there = record {
 }
 
 -- the cut of a builder that is done
-pub cut_made : (s : Setup) (w : World) (t x : ℕ) (u : Builder) → Knows s w → IsThere s t x
+pub cut_made : (s : Setup) (w : World) (t x : ℕ) (u : SnapshotBuilder) → Knows s w → IsThere s t x
     → Made (length s.clusters) x (name_of s x) (topic_at s w t x).entries (topic_at s w t x).ledgers u → Over u → IsCut s w t x u.cut
 cut_made s w t x u k there made over = (local.0, local.1, each)
   where

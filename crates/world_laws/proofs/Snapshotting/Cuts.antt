@@ -22,7 +22,7 @@ use Rattle.geo_base.specs.Laws.{CachesCut, IsShort, LawCut, MarkersCut}
 use Rattle.geo_base.specs.Moments.{partly_written}
 use Rattle.geo_base.specs.Plan.{all_changed, all_written, done, halted}
 use Rattle.geo_base.specs.Planned.{Planned}
-use Rattle.geo_base.specs.Position.{nowhere}
+use Rattle.geo_base.specs.Position.{no_position}
 use Rattle.geo_base.specs.Seeking.{restart}
 use Rattle.geo_base.specs.Setup.{Setup}
 use Rattle.geo_base.specs.Topic.{index_of}
@@ -75,7 +75,7 @@ is_snapshot c = false
 
 abbrev local_of : Content → Position
 local_of (content.Marked (marker.Snapshot id local remote)) = local
-local_of c = nowhere
+local_of c = no_position
 
 abbrev remote_of : Content → List ClusterPosition
 remote_of (content.Marked (marker.Snapshot id local remote)) = remote
@@ -100,7 +100,7 @@ new_snapshot s w t x e id local remote there k asked of is (Added.Completed y i 
     let R : List ClusterPosition → Type 0 = λ r. IsCut s w t x (cut_of x n u'.cut.local r) in
     (refl, subst L (ap local_of is) (subst R (ap remote_of is) (subst C (sym (cut_written x n u'.cut made.places made.empty)) cut)))
 
--- what a topic's snapshots are behind writes and changes of an event
+-- what a topic's snapshots are after writes and changes of an event
 event_cuts : (s : Setup) (w w' : World) (t x : ℕ) → IsThere s t x → Knows s w → Asked s w → HasCuts s w → Grown s w w' → (ws : List Write) (cs : List Change)
     → Adds (site s t x) (topic_at s w t x) (appended ws) → Each (CacheChange (site s t x) (topic_at s w t x)) cs
     → CutsIn s w' t x (all_changed (all_written s.per_ledger (topic_at s w t x) ws) cs)

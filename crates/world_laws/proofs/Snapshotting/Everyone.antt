@@ -5,6 +5,7 @@ use Rattle.std.proofs.lemmas.Bool.{eqb-true, eq-eqb, false≢true}
 use Rattle.std.proofs.lemmas.Bool.Decides.{nat_tests}
 use Rattle.geo_base.specs.Cursor.{has}
 use Rattle.world_laws.proofs.Walks.Walk.{by_test, left, right}
+use Rattle.geo_base.proofs.Bools.{not_true_false}
 
 -- no number twice
 abbrev pub apart : List ℕ → Bool
@@ -14,10 +15,6 @@ apart (x ∷ xs) = not (has xs x) && apart xs
 -- without one number
 abbrev others : ℕ → List ℕ → List ℕ
 others m xs = filter (λ x. not (x == m)) xs
-
-not_here : (b : Bool) → not b ≡ true → b ≡ false
-not_here true h = absurd (false≢true h)
-not_here false h = refl
 
 -- what is not there can be left out
 same_length : (m : ℕ) (xs : List ℕ) → has xs m ≡ false → length (others m xs) ≡ length xs
@@ -32,7 +29,7 @@ same_length m (x ∷ xs) h = go (x == m) refl h (same_length m xs)
 -- and what is there once costs one
 one_less : (m : ℕ) (xs : List ℕ) → apart xs ≡ true → length xs ≤ suc (length (others m xs))
 one_less m [] h = omega arith
-one_less m (x ∷ xs) h = go (x == m) refl (one_less m xs (right (not (has xs x)) (apart xs) h)) (not_here (has xs x) (left (not (has xs x)) (apart xs) h))
+one_less m (x ∷ xs) h = go (x == m) refl (one_less m xs (right (not (has xs x)) (apart xs) h)) (not_true_false (has xs x) (left (not (has xs x)) (apart xs) h))
   where
     go : (t : Bool) → (x == m) ≡ t → length xs ≤ suc (length (others m xs)) → has xs x ≡ false
         → suc (length xs) ≤ suc (length (cond (not t) (x ∷ others m xs) (others m xs)))
@@ -55,7 +52,7 @@ left_in m (x ∷ xs) c h = go (x == m) refl h (left_in m xs c)
 
 apart_left : (m : ℕ) (xs : List ℕ) → apart xs ≡ true → apart (others m xs) ≡ true
 apart_left m [] h = refl
-apart_left m (x ∷ xs) h = go (x == m) refl (apart_left m xs (right (not (has xs x)) (apart xs) h)) (not_here (has xs x) (left (not (has xs x)) (apart xs) h))
+apart_left m (x ∷ xs) h = go (x == m) refl (apart_left m xs (right (not (has xs x)) (apart xs) h)) (not_true_false (has xs x) (left (not (has xs x)) (apart xs) h))
   where
     go : (t : Bool) → (x == m) ≡ t → apart (others m xs) ≡ true → has xs x ≡ false → apart (cond (not t) (x ∷ others m xs) (others m xs)) ≡ true
     go true e ih none = ih

@@ -7,8 +7,8 @@ use Rattle.std.proofs.lemmas.Bool.Decides.{nat_tests}
 use Rattle.std.proofs.lemmas.List.{get_or-set_other, get_or-set_same, length-set}
 use Rattle.std.proofs.lemmas.Slice.Eq.{bytes_eq-Decides}
 use Rattle.std.specs.Str.{bytes_eq}
-use Rattle.world_laws.proofs.Types.{Builder, ClusterPosition, Entry, Position}
-use Rattle.geo_base.specs.Builder.{Heard, counts, current_id, judged, on_response, second_id, snapshot_id, with_response}
+use Rattle.world_laws.proofs.Types.{SnapshotBuilder, ClusterPosition, Entry, Position}
+use Rattle.geo_base.specs.SnapshotBuilder.{Heard, counts, current_id, judged, on_response, second_id, snapshot_id, with_response}
 use Rattle.world_laws.proofs.OnceInOrder.Members.{below_or, get_left, get_within}
 use Rattle.geo_base.specs.Cursor.{has}
 use Rattle.geo_base.specs.Position.{later_position, position_le, position_lt}
@@ -55,7 +55,7 @@ remote_of false ps c p y q lt h =
     Remote.New refl is (same_Some _ _ (sym (get_or-set_same ps c (Some p) None lt) ∙ subst P (sym is) h)))
     (λ e. Remote.Before (sym (get_or-set_other ps c y (Some p) None (λ is. false≢true (sym e ∙ eq-eqb c y (sym is)))) ∙ h))
 
-record Counting (u : Builder) (id : List ℕ) (c : ℕ) : Type 0 where
+record Counting (u : SnapshotBuilder) (id : List ℕ) (c : ℕ) : Type 0 where
   same : id ≡ current_id u
   other : (c == u.own) ≡ false
   small : c < u.clusters
@@ -64,7 +64,7 @@ record Counting (u : Builder) (id : List ℕ) (c : ℕ) : Type 0 where
 five : (a b c d e : Bool) → (a && b && not c && d && not e) ≡ true → (b ≡ true) × (c ≡ false) × (d ≡ true) × (e ≡ false)
 five a b c d e h = (grind (arith, h), grind (arith, h), grind (arith, h), grind (arith, h))
 
-counting : (u : Builder) (id : List ℕ) (c : ℕ) → counts u id c ≡ true → Counting u id c
+counting : (u : SnapshotBuilder) (id : List ℕ) (c : ℕ) → counts u id c ≡ true → Counting u id c
 counting u id c h =
     let f = five (not u.finished) (bytes_eq id (current_id u)) (c == u.own) (nat_lt c u.clusters) (has u.heard c) h in
     record { same = (bytes_eq-Decides id (current_id u)).0 f.0; other = f.1; small = grind (arith, nat_tests, f.2); new = f.3 }
@@ -80,14 +80,14 @@ counted_on y es ls id p local here c =
     record { index = c.index; entry = c.entry; answer = c.answer; heard = c.heard; names = c.names; low = later_left (position_at ls c.index) local here c.low }
 
 -- which id an answer that counts has
-first_id : (u : Builder) (id : List ℕ) → id ≡ current_id u → u.second ≡ false → id ≡ u.id
+first_id : (u : SnapshotBuilder) (id : List ℕ) → id ≡ current_id u → u.second ≡ false → id ≡ u.id
 first_id u id same first = same ∙ ap (λ (b : Bool). if b then second_id u.id else u.id) first
 
-later_id : (u : Builder) (id : List ℕ) → id ≡ current_id u → u.second ≡ true → id ≡ second_id u.id
+later_id : (u : SnapshotBuilder) (id : List ℕ) → id ≡ current_id u → u.second ≡ true → id ≡ second_id u.id
 later_id u id same second = same ∙ ap (λ (b : Bool). if b then second_id u.id else u.id) second
 
 -- one more answer that counts keeps the facts
-pub with_more : (n x y i : ℕ) (name : List ℕ) (es : List Entry) (ls : List ℕ) (u : Builder) (id : List ℕ) (answer : ClusterPosition) (e : Entry)
+pub with_more : (n x y i : ℕ) (name : List ℕ) (es : List Entry) (ls : List ℕ) (u : SnapshotBuilder) (id : List ℕ) (answer : ClusterPosition) (e : Entry)
     → Made n x name es ls u → counts u id y ≡ true → AnswerAt y es i id answer e → index_of ls (position_at ls i) ≡ Some i
     → Made n x name es ls (with_response u y answer.position (position_at ls i))
 with_more n x y i name es ls u id answer e made h at stored = record {
@@ -186,11 +186,11 @@ with_more n x y i name es ls u id answer e made h at stored = record {
         let a = made.again second c heard in (a.0, counted_on c es ls (second_id u.id) a.0 u.cut.local here a.1)
 
 -- what a response makes of a builder, u1 being it with the response where that counts
-pub record Outcome (n x : ℕ) (name : List ℕ) (es : List Entry) (ls : List ℕ) (u' : Builder) : Type 0 where
+pub record Outcome (n x : ℕ) (name : List ℕ) (es : List Entry) (ls : List ℕ) (u' : SnapshotBuilder) : Type 0 where
   pub made : Made n x name es ls u'
 
 -- a round ends: all were heard (by counting), and no second request stands yet
-judge : (n x : ℕ) (name : List ℕ) (es : List Entry) (ls : List ℕ) (u : Builder) → Made n x name es ls u → 0 < length u.heard → NotYet x es u
+judge : (n x : ℕ) (name : List ℕ) (es : List Entry) (ls : List ℕ) (u : SnapshotBuilder) → Made n x name es ls u → 0 < length u.heard → NotYet x es u
     → (nat_lt (length u.heard + 1) u.clusters ≡ false → (c : ℕ) → c < n → (c ≡ x → ⊥) → has u.heard c ≡ true)
     → Made n x name es ls (judged u).builder
 judge n x name es ls u made some not_yet all_heard =
@@ -237,7 +237,7 @@ judge n x name es ls u made some not_yet all_heard =
     }
 
 -- a list of heard clusters that is long enough has all of them but the own one
-pub all_heard : (n x : ℕ) (name : List ℕ) (es : List Entry) (ls : List ℕ) (u : Builder) → x < n → Made n x name es ls u → nat_lt (length u.heard + 1) u.clusters ≡ false
+pub all_heard : (n x : ℕ) (name : List ℕ) (es : List Entry) (ls : List ℕ) (u : SnapshotBuilder) → x < n → Made n x name es ls u → nat_lt (length u.heard + 1) u.clusters ≡ false
     → (c : ℕ) → c < n → (c ≡ x → ⊥) → has u.heard c ≡ true
 all_heard n x name es ls u small made ended c lt other = rest (x == c) refl (everyone n (x ∷ u.heard) different below many c lt)
   where
@@ -259,7 +259,7 @@ all_heard n x name es ls u small made ended c lt other = rest (x == c) refl (eve
     rest false e h = h
 
 -- one response, whatever it is
-pub heard_more : (n x y i : ℕ) (name : List ℕ) (es : List Entry) (ls : List ℕ) (u : Builder) (id : List ℕ) (answer : ClusterPosition) (e : Entry)
+pub heard_more : (n x y i : ℕ) (name : List ℕ) (es : List Entry) (ls : List ℕ) (u : SnapshotBuilder) (id : List ℕ) (answer : ClusterPosition) (e : Entry)
     → x < n → Made n x name es ls u → NotYet x es u → AnswerAt y es i id answer e → index_of ls (position_at ls i) ≡ Some i
     → Made n x name es ls (on_response u id y answer.position (position_at ls i)).builder
 heard_more n x y i name es ls u id answer e small made not_yet at stored =
@@ -295,7 +295,7 @@ counted_stays y es es' ls ls' id p local g c = record {
 }
 
 -- whatever the new entries are
-pub made_grows : (n x : ℕ) (name : List ℕ) (es es' : List Entry) (ls ls' : List ℕ) (u : Builder) → Stays es es' ls ls' → Made n x name es ls u → Made n x name es' ls' u
+pub made_grows : (n x : ℕ) (name : List ℕ) (es es' : List Entry) (ls ls' : List ℕ) (u : SnapshotBuilder) → Stays es es' ls ls' → Made n x name es ls u → Made n x name es' ls' u
 made_grows n x name es es' ls ls' u g made = record {
   own = made.own;
   clusters = made.clusters;

@@ -7,7 +7,7 @@ use Rattle.std.proofs.lemmas.Bool.{eq-eqb, eqb-true, false≢true}
 use Rattle.std.proofs.lemmas.Fmt.{decimal_injective, decimal_is_IsNumeral, length-decimal-le}
 use Rattle.std.proofs.lemmas.List.{length-append}
 use Rattle.world_laws.proofs.Types.{Position}
-use Rattle.geo_base.specs.Builder.{second_id, snapshot_id}
+use Rattle.geo_base.specs.SnapshotBuilder.{second_id, snapshot_id}
 use Rattle.geo_base.specs.Cursor.{has}
 use Rattle.world_laws.proofs.OnceInOrder.Members.{head_is, tail_is}
 

@@ -5,13 +5,13 @@ use Rattle.std.specs.Prelude.{Option, Some, None, ◌&&◌, if◌then◌else◌,
 use Rattle.std.proofs.lemmas.Bool.{false≢true}
 use Rattle.std.proofs.lemmas.List.{length-replicate}
 use Rattle.std.proofs.lemmas.Option.{none-some, same_Some, slice_get_within}
-use Rattle.world_laws.proofs.Types.{Builder, Content, Entry, Position, Write}
+use Rattle.world_laws.proofs.Types.{SnapshotBuilder, Content, Entry, Position, Write}
 use Rattle.world_laws.proofs.Types.content
 use Rattle.world_laws.proofs.Types.marker
 use Rattle.world_laws.proofs.Types.progress
 use Rattle.world_laws.proofs.Types.write
 use Rattle.geo_base.specs.Broker.{Broker, Site, cluster_name, written}
-use Rattle.geo_base.specs.Builder.{current_id, second_id, snapshot_id, started}
+use Rattle.geo_base.specs.SnapshotBuilder.{current_id, second_id, snapshot_id, started}
 use Rattle.geo_base.specs.Cursor.{has}
 use Rattle.geo_base.specs.Markers.{request_marker}
 use Rattle.geo_base.specs.Plan.{all_written}
@@ -32,7 +32,7 @@ abbrev pub AllForms : ℕ → List ℕ → List Entry → List ℕ → Type 0
 AllForms x name es ls = (k : ℕ) (id : List ℕ) → RequestAt x es k id → Form name es ls x k id
 
 -- the id that a builder asks for is that of an own request
-abbrev pub IsAsked : ℕ → List ℕ → List Entry → List ℕ → Builder → Type 0
+abbrev pub IsAsked : ℕ → List ℕ → List Entry → List ℕ → SnapshotBuilder → Type 0
 IsAsked x name es ls u = (k : ℕ) × (u.id ≡ snapshot_id name (position_at ls k)) × RequestAt x es k u.id
 
 -- WRITES
@@ -72,7 +72,7 @@ silent_append own (write.Alter n kind replicated ∷ ws) h j e at = silent_appen
 silent_append own (write.Delete n ∷ ws) h j e at = silent_append own ws h.1 j e at
 silent_append own (write.Acks n is ∷ ws) h j e at = silent_append own ws h.1 j e at
 silent_append own (write.Seek n i ∷ ws) h j e at = silent_append own ws h.1 j e at
-silent_append own (write.SenderAck y i ∷ ws) h j e at = silent_append own ws h.1 j e at
+silent_append own (write.ReplicatorAck y i ∷ ws) h j e at = silent_append own ws h.1 j e at
 silent_append own (write.SessionNumber y n ∷ ws) h j e at = silent_append own ws h.1 j e at
 silent_append own (write.Ledger ∷ ws) h j e at = silent_append own ws h.1 j e at
 
@@ -95,7 +95,7 @@ first_new per b e ws numbered =
     ((writes_steady per c ws after).index (next_position per b.ledgers) (length b.entries) at)
 
 new_form : (h : Site) (b : Broker) (ws : List Write) → Requests h b ws → Numbered b.entries b.ledgers
-    → ((u : Builder) → b.builder ≡ Some u → IsAsked h.own (cluster_name h h.own) b.entries b.ledgers u) → (k : ℕ) (id : List ℕ) (e : Entry)
+    → ((u : SnapshotBuilder) → b.builder ≡ Some u → IsAsked h.own (cluster_name h h.own) b.entries b.ledgers u) → (k : ℕ) (id : List ℕ) (e : Entry)
     → length b.entries ≤ k → slice_get (appended ws) (k - length b.entries) ≡ Some e → is_of h.own e ≡ true → Asks id e
     → Form (cluster_name h h.own) (all_written h.per_ledger b ws).entries (all_written h.per_ledger b ws).ledgers h.own k id
 new_form h b ws (Requests.NoRequest vs silent) numbered builder k id e le is of asks =
@@ -127,7 +127,7 @@ new_form h b ws (Requests.Second y i old answer u u' is_u heard vs none) numbere
 
 -- what an event appends, or a beginning of it, has the forms of requests
 pub forms_written : (h : Site) (b : Broker) (ws : List Write) → Requests h b ws → Numbered b.entries b.ledgers
-    → ((u : Builder) → b.builder ≡ Some u → IsAsked h.own (cluster_name h h.own) b.entries b.ledgers u)
+    → ((u : SnapshotBuilder) → b.builder ≡ Some u → IsAsked h.own (cluster_name h h.own) b.entries b.ledgers u)
     → AllForms h.own (cluster_name h h.own) b.entries b.ledgers
     → AllForms h.own (cluster_name h h.own) (all_written h.per_ledger b ws).entries (all_written h.per_ledger b ws).ledgers
 forms_written h b ws asked numbered builder forms k id r =
@@ -144,12 +144,12 @@ forms_written h b ws asked numbered builder forms k id r =
 -- EVENTS
 
 -- of one topic, and of its builder
-pub record Making (n x : ℕ) (name : List ℕ) (es : List Entry) (ls : List ℕ) (o : Option Builder) : Type 0 where
+pub record Making (n x : ℕ) (name : List ℕ) (es : List Entry) (ls : List ℕ) (o : Option SnapshotBuilder) : Type 0 where
   pub forms : AllForms x name es ls
-  pub made : (u : Builder) → o ≡ Some u → Made n x name es ls u
+  pub made : (u : SnapshotBuilder) → o ≡ Some u → Made n x name es ls u
 
-abbrev pub NoneYet : ℕ → List Entry → Option Builder → Type 0
-NoneYet x es o = (u : Builder) → o ≡ Some u → NotYet x es u
+abbrev pub NoneYet : ℕ → List Entry → Option SnapshotBuilder → Type 0
+NoneYet x es o = (u : SnapshotBuilder) → o ≡ Some u → NotYet x es u
 
 -- its ids tell requests apart
 pub record Telling (per : ℕ) (name : List ℕ) (ls : List ℕ) : Type 0 where
@@ -158,7 +158,7 @@ pub record Telling (per : ℕ) (name : List ℕ) (ls : List ℕ) : Type 0 where
   pub stored : (p : Position) (i : ℕ) → index_of ls p ≡ Some i → IsSmall p
   pub next : IsSmall (next_position per ls)
 
-pub record MadeAfter (n x : ℕ) (name : List ℕ) (es : List Entry) (ls : List ℕ) (o : Option Builder) : Type 0 where
+pub record MadeAfter (n x : ℕ) (name : List ℕ) (es : List Entry) (ls : List ℕ) (o : Option SnapshotBuilder) : Type 0 where
   pub making : Making n x name es ls o
   pub not_yet : NoneYet x es o
 
@@ -166,7 +166,7 @@ pub record MadeAfter (n x : ℕ) (name : List ℕ) (es : List Entry) (ls : List 
 abbrev pub NoneNew : ℕ → List Entry → List ℕ → Type 0
 NoneNew x more id = (j : ℕ) (e : Entry) → slice_get more j ≡ Some e → is_of x e ≡ true → Asks id e → ⊥
 
-pub not_yet_grows : (x : ℕ) (es es' : List Entry) (ls ls' : List ℕ) (u : Builder) (g : Stays es es' ls ls') → NoneNew x g.more (second_id u.id) → NotYet x es u → NotYet x es' u
+pub not_yet_grows : (x : ℕ) (es es' : List Entry) (ls ls' : List ℕ) (u : SnapshotBuilder) (g : Stays es es' ls ls') → NoneNew x g.more (second_id u.id) → NotYet x es u → NotYet x es' u
 not_yet_grows x es es' ls ls' u g none h round k r =
     let at : slice_get (es ++ g.more) k ≡ Some r.entry = let P : List Entry → Type 0 = λ l. slice_get l k ≡ Some r.entry in subst P g.is r.at in
     elim (old_or_new es g.more k r.entry at) [

@@ -3,12 +3,12 @@ use Rattle.std.proofs.Common.{◌≡◌, ℕ, ◌-◌, ◌<◌, List, [], ◌∷
 use Rattle.std.specs.Prelude.{Option, Some, take}
 use Rattle.std.proofs.lemmas.Bool.{eq-eqb, false≢true}
 use Rattle.std.proofs.lemmas.Option.{none-some, same_Some, slice_get_within}
-use Rattle.world_laws.proofs.Types.{Builder, ClusterPosition, Entry, Progress}
-use Rattle.world_laws.proofs.Types.place
+use Rattle.world_laws.proofs.Types.{SnapshotBuilder, ClusterPosition, Entry, Progress}
+use Rattle.world_laws.proofs.Types.cluster_ref
 use Rattle.world_laws.proofs.Types.progress
 use Rattle.world_laws.proofs.Types.write
 use Rattle.geo_base.specs.Broker.{Broker, Site, cluster_name}
-use Rattle.geo_base.specs.Builder.{Heard, current_id, second_id, snapshot_id, started}
+use Rattle.geo_base.specs.SnapshotBuilder.{Heard, current_id, second_id, snapshot_id, started}
 use Rattle.geo_base.specs.Markers.{request_marker}
 use Rattle.geo_base.specs.Plan.{Plan, all_written, done, halted}
 use Rattle.geo_base.specs.Topic.{index_of, next_position, position_at}
@@ -47,7 +47,7 @@ fresh_not_yet per x name es ls numbered tells forms k r = go (forms k (second_id
         none-some j (sym (next_unused per ls numbered.some) ∙ ap (index_of ls) there ∙ at)
 
 -- what a response makes of the builder
-pub heard_made : (h : Site) (b : Broker) (y i : ℕ) (e : Entry) (id : List ℕ) (answer : ClusterPosition) (u u' : Builder) (g : Progress) → h.own < length h.clusters
+pub heard_made : (h : Site) (b : Broker) (y i : ℕ) (e : Entry) (id : List ℕ) (answer : ClusterPosition) (u u' : SnapshotBuilder) (g : Progress) → h.own < length h.clusters
     → Numbered b.entries b.ledgers → ReadsNext h b y i e → IsResponse h b y e id answer u → Hears b y i id answer u g u'
     → MadeAfter (length h.clusters) h.own (cluster_name h h.own) b.entries b.ledgers b.builder
     → Made (length h.clusters) h.own (cluster_name h h.own) b.entries b.ledgers u'
@@ -58,12 +58,12 @@ heard_made h b y i e id answer u u' g small numbered next is heard m =
     (heard_more n h.own y i name b.entries b.ledgers u id answer e small (m.making.made u is.2) (m.not_yet u is.2) (record { at = next.2; of = is.0.1; is = is.1 })
     (at_index b.ledgers i (omega (arith, lt, whole))))
 
-abbrev MadeNow : Site → Broker → Builder → Type 0
+abbrev MadeNow : Site → Broker → SnapshotBuilder → Type 0
 MadeNow h c u = Made (length h.clusters) h.own (cluster_name h h.own) c.entries c.ledgers u × NotYet h.own c.entries u
 
 one_made : (h : Site) (b : Broker) (p : Plan) → Building h b p → h.own < length h.clusters → Numbered b.entries b.ledgers
     → Telling h.per_ledger (cluster_name h h.own) b.ledgers → MadeAfter (length h.clusters) h.own (cluster_name h h.own) b.entries b.ledgers b.builder
-    → (u : Builder) → builder_then b.builder p.changes ≡ Some u → MadeNow h (all_written h.per_ledger b p.writes) u
+    → (u : SnapshotBuilder) → builder_then b.builder p.changes ≡ Some u → MadeNow h (all_written h.per_ledger b p.writes) u
 one_made h b p (Building.Leaves q silent quiet) small numbered tells m u is =
     let n = length h.clusters in let x = h.own in let name = cluster_name h h.own in
     let c = all_written h.per_ledger b p.writes in
@@ -80,7 +80,7 @@ one_made h b p (Building.Begins none) small numbered tells m u is =
     let id = snapshot_id name (next_position h.per_ledger b.ledgers) in
     let e = request_marker h b id in
     let c = all_written h.per_ledger b (write.Append e ∷ []) in
-    let r : RequestAt x c.entries (length b.entries) id = record { entry = e; at = get_last b.entries e; of = eq-eqb x x refl; asks = (place.Known x, refl) } in
+    let r : RequestAt x c.entries (length b.entries) id = record { entry = e; at = get_last b.entries e; of = eq-eqb x x refl; asks = (cluster_ref.Known x, refl) } in
     let at = ap (snapshot_id name) (sym (first_new h.per_ledger b e [] numbered)) in
     let new : NotYet x c.entries (started id x n) = λ round k q.
     elim (old_or_new b.entries (e ∷ []) k q.entry q.at) [
@@ -93,8 +93,8 @@ one_made h b p (Building.Begins none) small numbered tells m u is =
     subst (MadeNow h c) (same_Some _ _ is) (started_made n x name c.entries c.ledgers id (length b.entries) at r, new)
 one_made h b p (Building.Counts y i e id answer v u' next response heard) small numbered tells m u is =
     let n = length h.clusters in let x = h.own in let name = cluster_name h h.own in
-    let c = all_written h.per_ledger b (write.SenderAck y i ∷ []) in
-    let g = writes_stay h.per_ledger b (write.SenderAck y i ∷ []) numbered in
+    let c = all_written h.per_ledger b (write.ReplicatorAck y i ∷ []) in
+    let g = writes_stay h.per_ledger b (write.ReplicatorAck y i ∷ []) numbered in
     let later = heard_later b y i id answer progress.Kept v u' heard in
     let grown = made_grows n x name b.entries c.entries b.ledgers c.ledgers u' g (heard_made h b y i e id answer v u' progress.Kept small numbered next response heard m) in
     let none : NotYet x c.entries u' = λ round k r.
@@ -102,8 +102,8 @@ one_made h b p (Building.Counts y i e id answer v u' next response heard) small 
     subst (MadeNow h c) (same_Some _ _ is) (grown, none)
 one_made h b p (Building.AsksAgain y i e id answer v u' next response heard) small numbered tells m u is =
     let n = length h.clusters in let x = h.own in let name = cluster_name h h.own in
-    let c = all_written h.per_ledger b (write.Append (request_marker h b (current_id u')) ∷ write.SenderAck y i ∷ []) in
-    let g = writes_stay h.per_ledger b (write.Append (request_marker h b (current_id u')) ∷ write.SenderAck y i ∷ []) numbered in
+    let c = all_written h.per_ledger b (write.Append (request_marker h b (current_id u')) ∷ write.ReplicatorAck y i ∷ []) in
+    let g = writes_stay h.per_ledger b (write.Append (request_marker h b (current_id u')) ∷ write.ReplicatorAck y i ∷ []) numbered in
     let later = heard_later b y i id answer progress.SecondRound v u' heard in
     let grown = made_grows n x name b.entries c.entries b.ledgers c.ledgers u' g (heard_made h b y i e id answer v u' progress.SecondRound small numbered next response heard m) in
     let none : NotYet x c.entries u' = λ round. absurd (false≢true (sym round ∙ later.begins refl)) in
@@ -111,7 +111,7 @@ one_made h b p (Building.AsksAgain y i e id answer v u' next response heard) sma
 
 written_made : (h : Site) (b : Broker) (p : Plan) → Building h b p → h.own < length h.clusters → Numbered b.entries b.ledgers
     → Telling h.per_ledger (cluster_name h h.own) b.ledgers → MadeAfter (length h.clusters) h.own (cluster_name h h.own) b.entries b.ledgers b.builder
-    → (o : Option Builder) → builder_then b.builder p.changes ≡ o
+    → (o : Option SnapshotBuilder) → builder_then b.builder p.changes ≡ o
     → MadeAfter (length h.clusters) h.own (cluster_name h h.own) (all_written h.per_ledger b p.writes).entries (all_written h.per_ledger b p.writes).ledgers o
 written_made h b p building small numbered tells m o is_o = record {
   making = record { forms = forms; made = λ u is. (one_made h b p building small numbered tells m u (is_o ∙ is)).0 };
@@ -135,7 +135,7 @@ making_done h b p building small numbered tells m =
     (subst (λ (es : List Entry). MadeAfter n h.own name es c.ledgers d.builder) (sym (all_changed_entries c p.changes))
     (written_made h b p building small numbered tells m d.builder (sym (done_builder h.per_ledger b p))))
 
--- behind a stop there is no builder
+-- after a stop there is no builder
 pub making_halted : (h : Site) (b : Broker) (k : ℕ) (p : Plan) → Building h b p → Numbered b.entries b.ledgers
     → Making (length h.clusters) h.own (cluster_name h h.own) b.entries b.ledgers b.builder
     → MadeAfter (length h.clusters) h.own (cluster_name h h.own) (halted h.per_ledger b k p).entries (halted h.per_ledger b k p).ledgers (halted h.per_ledger b k p).builder

@@ -5,10 +5,10 @@ use Rattle.std.proofs.lemmas.Bool.{eq-eqb, eqb-true, ltb-true}
 use Rattle.std.proofs.lemmas.Bool.Decides.{nat_tests}
 use Rattle.std.proofs.lemmas.List.{length-set}
 use Rattle.std.proofs.lemmas.Option.{none-some}
-use Rattle.world_laws.proofs.Types.{ClusterPosition, Place}
+use Rattle.world_laws.proofs.Types.{ClusterPosition, ClusterRef}
 use Rattle.world_laws.proofs.Types.content
 use Rattle.world_laws.proofs.Types.marker
-use Rattle.world_laws.proofs.Types.place
+use Rattle.world_laws.proofs.Types.cluster_ref
 use Rattle.geo_base.specs.Broker.{Broker}
 use Rattle.geo_base.specs.Laws.{IsAnswer, IsPrefix, LawPosition, MarkerAt, NamesPosition}
 use Rattle.geo_base.specs.Moments.{partly_written}
@@ -37,7 +37,7 @@ answered s w t y j id answer all prefix there small r = record {
     entry = a.request.entry;
     stands = source.is;
     origin = eqb-true a.request.entry.ident.origin a.asker a.request.of;
-    is = a.request.asks.1 ∙ ap (λ (p : Place). content.Marked (marker.Request id p)) own;
+    is = a.request.asks.1 ∙ ap (λ (p : ClusterRef). content.Marked (marker.Request id p)) own;
   };
 }
   where
@@ -49,7 +49,7 @@ answered s w t y j id answer all prefix there small r = record {
         of_source a.asker y (topic_at s w t a.asker).entries (topic_at s w t y).entries (prefix t a.asker y (a.small, small, a.other)) a.index a.request.entry
         a.request.at a.request.of
 
-    own : a.request.asks.0 ≡ place.Known a.asker
+    own : a.request.asks.0 ≡ cluster_ref.Known a.asker
     own = (all t a.asker (there, a.small)).sources source.place a.request.entry id a.request.asks.0 source.is a.request.of a.request.asks.1
 
 -- a topic that is not there has no entries

@@ -5,10 +5,10 @@ use Rattle.std.proofs.lemmas.Bool.{eq-eqb, ltb-true}
 use Rattle.std.proofs.lemmas.Bool.Decides.{nat_tests}
 use Rattle.std.proofs.lemmas.List.{length-set}
 use Rattle.std.proofs.lemmas.Option.{none-some, slice_get_within}
-use Rattle.world_laws.proofs.Types.{Builder, ClusterPosition, Entry, Position}
+use Rattle.world_laws.proofs.Types.{SnapshotBuilder, ClusterPosition, Entry, Position}
 use Rattle.world_laws.proofs.Types.marker
 use Rattle.geo_base.specs.Broker.{Broker}
-use Rattle.geo_base.specs.Builder.{second_id, snapshot_id}
+use Rattle.geo_base.specs.SnapshotBuilder.{second_id, snapshot_id}
 use Rattle.geo_base.specs.Laws.{ArePair, ComesAfter, IsPrefix, IsShort, LawSecondRound, MarkerAt}
 use Rattle.geo_base.specs.Moments.{partly_written}
 use Rattle.geo_base.specs.Planned.{Planned}
@@ -72,7 +72,7 @@ small_at s w t x i k there lt =
     stored_small b (position_at b.ledgers i) i (k.room t x there) numbered (at_index b.ledgers i (omega (arith, lt, whole)))
 
 -- who asked for the second round of x's builder is x
-pub asker_is : (s : Setup) (w : World) (t x c j : ℕ) (u : Builder) (answer : ClusterPosition) (e : Entry) → Named s → Knows s w → t < length s.topics → x < length s.clusters
+pub asker_is : (s : Setup) (w : World) (t x c j : ℕ) (u : SnapshotBuilder) (answer : ClusterPosition) (e : Entry) → Named s → Knows s w → t < length s.topics → x < length s.clusters
     → c < length s.clusters → (topic_at s w t x).builder ≡ Some u
     → (h : Answers (length s.clusters) c (topic_at s w t c).entries (topic_at s w t c).ledgers j (second_id u.id) answer e) → h.asker ≡ x
 asker_is s w t x c j u answer e names k lt small_x small_c is h = go (z.forms source.place (second_id u.id) (record { entry = h.request.entry; at = source.is; of = h.request.of; asks = h.request.asks }))
@@ -108,7 +108,7 @@ flip : (s : Setup) (x y : ℕ) → ArePair s x y → ArePair s y x
 flip s x y pair = (pair.1, pair.0, λ is. pair.2 (sym is))
 
 -- of a topic that is there
-comes : (s : Setup) (w : World) → Named s → Knows s w → (t x c y j i l : ℕ) (u : Builder) (f : Entry) (answer : ClusterPosition) (p : Position) → t < length s.topics
+comes : (s : Setup) (w : World) → Named s → Knows s w → (t x c y j i l : ℕ) (u : SnapshotBuilder) (f : Entry) (answer : ClusterPosition) (p : Position) → t < length s.topics
     → ArePair s x y → ArePair s x c → ArePair s c y → (topic_at s w t x).builder ≡ Some u → u.second ≡ true
     → MarkerAt (topic_at s w t c) j c (marker.Response (second_id u.id) answer)
     → slice_index_or u.cut.remote y None ≡ Some p → index_of (topic_at s w t y).ledgers p ≡ Some l

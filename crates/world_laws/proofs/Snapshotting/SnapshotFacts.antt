@@ -1,14 +1,14 @@
 -- The facts of snapshots, and that they are enough for the second round and the cut. All over values: the topics a of x, b of y, cs of
 -- c, the ledgers of each, and the builder at x.
-use Rattle.std.proofs.Common.{◌≡◌, ℕ, suc, ◌-◌, ◌^◌, ◌<◌, ◌≤◌, Bool, true, false, List, length, refl, sym, ap, subst, ◌∙◌, arith, inl, inr, ◌⊎◌}
-use Rattle.std.specs.Prelude.{Some, None, slice_get, slice_index_or, ◌||◌, ◌&&◌}
+use Rattle.std.proofs.Common.{◌≡◌, ℕ, suc, ◌-◌, ◌^◌, ◌<◌, ◌≤◌, true, false, List, length, refl, sym, ap, subst, ◌∙◌, arith, inl, inr, ◌⊎◌}
+use Rattle.std.specs.Prelude.{Some, None, slice_get, slice_index_or}
 use Rattle.std.proofs.lemmas.Option.{same_Some, slice_get_within}
 use Rattle.std.proofs.lemmas.Bool.{eq-eqb, false≢true}
-use Rattle.world_laws.proofs.Types.{Builder, ClusterPosition, Entry, Position}
+use Rattle.world_laws.proofs.Types.{SnapshotBuilder, ClusterPosition, Entry, Position}
 use Rattle.world_laws.proofs.Types.content
 use Rattle.world_laws.proofs.Types.marker
 use Rattle.world_laws.proofs.Types.targets
-use Rattle.geo_base.specs.Builder.{second_id, snapshot_id}
+use Rattle.geo_base.specs.SnapshotBuilder.{second_id, snapshot_id}
 use Rattle.geo_base.specs.Cursor.{has}
 use Rattle.geo_base.specs.Entry.{goes_to, is_outbound, meant_for}
 use Rattle.geo_base.specs.Position.{position_le}
@@ -20,6 +20,7 @@ use Rattle.world_laws.proofs.OnceInOrder.Once.{OnceIn}
 use Rattle.world_laws.proofs.TopicOrder.Order.{Below, Chain, Follows, FromWhom, covered, of_source, round_two}
 use Rattle.world_laws.proofs.Replicating.Prefixes.{Begins, is_of}
 use Rattle.world_laws.proofs.Walks.Walk.{by_test}
+use Rattle.geo_base.proofs.Bools.{and_of_both, and_second, or_other}
 
 -- an own request has the id of its place, or that of a request before it, for the second round
 pub data Form (name : List ℕ) (es : List Entry) (ls : List ℕ) (x k : ℕ) (id : List ℕ) : Type 0 where
@@ -40,11 +41,11 @@ pub record Counted (y : ℕ) (es : List Entry) (ls : List ℕ) (id : List ℕ) (
   pub low : position_le (position_at ls index) local ≡ true
 
 -- in round two it stands before each own request of the second id
-pub record FirstCounted (x y : ℕ) (es : List Entry) (ls : List ℕ) (u : Builder) (p : Position) : Type 0 where
+pub record FirstCounted (x y : ℕ) (es : List Entry) (ls : List ℕ) (u : SnapshotBuilder) (p : Position) : Type 0 where
   pub counted : Counted y es ls u.id p u.cut.local
   pub early : u.second ≡ true → (i : ℕ) (g : Entry) → slice_get es i ≡ Some g → is_of x g ≡ true → Asks (second_id u.id) g → counted.index < i
 
-pub record Made (n x : ℕ) (name : List ℕ) (es : List Entry) (ls : List ℕ) (u : Builder) : Type 0 where
+pub record Made (n x : ℕ) (name : List ℕ) (es : List Entry) (ls : List ℕ) (u : SnapshotBuilder) : Type 0 where
   pub own : u.own ≡ x
   pub clusters : u.clusters ≡ n
   pub asked : (k : ℕ) × (u.id ≡ snapshot_id name (position_at ls k)) × RequestAt x es k u.id
@@ -60,7 +61,7 @@ pub record Made (n x : ℕ) (name : List ℕ) (es : List Entry) (ls : List ℕ) 
   pub again : u.second ≡ true → (c : ℕ) → has u.heard c ≡ true → (p : Position) × Counted c es ls (second_id u.id) p u.cut.local
 
 -- between events alone
-abbrev pub NotYet : ℕ → List Entry → Builder → Type 0
+abbrev pub NotYet : ℕ → List Entry → SnapshotBuilder → Type 0
 NotYet x es u = u.second ≡ false → (k : ℕ) → RequestAt x es k (second_id u.id) → ⊥
 
 -- what a beginning has of y is for x
@@ -69,7 +70,7 @@ out_there x y near far begins k e at of =
     let P : List Entry → Type 0 = λ l. Stands l e in
     (from_filter (is_outbound y x) near e (subst P (sym begins.1) (stands_left _ begins.0 e (to_filter (is_of y) far e k at of)))).passes
 
--- where y has the entry that x counted, it stands behind the index that it names
+-- where y has the entry that x counted, it stands after the index that it names
 named_before : (n x y : ℕ) (b : List Entry) (ls : List ℕ) → AllAnswers n y b ls → (id : List ℕ) (answer : ClusterPosition) (r : Entry) (l : ℕ)
     → is_of y r ≡ true → r.content ≡ content.Marked (marker.Response id answer) → index_of ls answer.position ≡ Some l → (k : ℕ) → slice_get b k ≡ Some r → l < k
 named_before n x y b ls known id answer r l of is at k here =
@@ -78,7 +79,7 @@ named_before n x y b ls known id answer r l of is at k here =
     omega (arith, same, h.below)
 
 -- the second round: an answer e of c to the second id, whose asker is x
-pub comes_after : (n x c y : ℕ) (name : List ℕ) (a cs b : List Entry) (la lc lb : List ℕ) (u : Builder) → Begins y x b a → Begins x c a cs → Chain x c y a cs b
+pub comes_after : (n x c y : ℕ) (name : List ℕ) (a cs b : List Entry) (la lc lb : List ℕ) (u : SnapshotBuilder) → Begins y x b a → Begins x c a cs → Chain x c y a cs b
     → Made n x name a la u → u.second ≡ true → AllAnswers n c cs lc → AllAnswers n y b lb
     → (j : ℕ) (answer : ClusterPosition) (e : Entry) (at : AnswerAt c cs j (second_id u.id) answer e)
     → ((h : Answers n c cs lc j (second_id u.id) answer e) → h.asker ≡ x)
@@ -107,35 +108,23 @@ pub record Around (n x : ℕ) (names : ℕ → List ℕ) (tops : ℕ → List En
   pub only : (z : ℕ) → goes_to x (targets.Only (2 ^ z)) ≡ true → z ≡ x
 
 -- a builder that has heard all, in its last round
-pub record Finished (n x : ℕ) (u : Builder) : Type 0 where
+pub record Finished (n x : ℕ) (u : SnapshotBuilder) : Type 0 where
   pub heard : (c : ℕ) → c < n → (c ≡ x → ⊥) → has u.heard c ≡ true
   pub last : (u.second ≡ true) ⊎ (n ≡ 2)
 
-pub record CoversAll (x : ℕ) (a b : List Entry) (lb : List ℕ) (u : Builder) (y l : ℕ) : Type 0 where
+pub record CoversAll (x : ℕ) (a b : List Entry) (lb : List ℕ) (u : SnapshotBuilder) (y l : ℕ) : Type 0 where
   pub position : Position
   pub kept : slice_index_or u.cut.remote y None ≡ Some position
   pub index : ℕ
   pub stands : index_of lb position ≡ Some index
   pub covers : (i : ℕ) (f : Entry) → i ≤ index → slice_get b i ≡ Some f → meant_for x f ≡ true → Below a (suc l) f
 
-second_of : (a b : Bool) → (a || b) ≡ true → a ≡ false → b ≡ true
-second_of true b h k = absurd (false≢true (sym k))
-second_of false b h k = h
-
-both_true : (a b : Bool) → a ≡ true → b ≡ true → (a && b) ≡ true
-both_true true b h k = k
-both_true false b h k = h
-
-right_true : (a b : Bool) → (a && b) ≡ true → b ≡ true
-right_true true b h = h
-right_true false b h = absurd (false≢true h)
-
-kept_for : (n x y : ℕ) (name : List ℕ) (a : List Entry) (la : List ℕ) (u : Builder) → Made n x name a la u → Finished n x u → y < n → (y ≡ x → ⊥)
+kept_for : (n x y : ℕ) (name : List ℕ) (a : List Entry) (la : List ℕ) (u : SnapshotBuilder) → Made n x name a la u → Finished n x u → y < n → (y ≡ x → ⊥)
     → (p : Position) × (slice_index_or u.cut.remote y None ≡ Some p)
 kept_for n x y name a la u made done small other = by_test u.second (λ second. made.all second y small other) (λ first. made.one first y (done.heard y small other))
 
 -- the cut at y of a builder that is done, l being the index of its local position
-pub cut_done : (n x y l : ℕ) (names : ℕ → List ℕ) (tops : ℕ → List Entry) (ledgers : ℕ → List ℕ) (u : Builder) → Around n x names tops ledgers
+pub cut_done : (n x y l : ℕ) (names : ℕ → List ℕ) (tops : ℕ → List Entry) (ledgers : ℕ → List ℕ) (u : SnapshotBuilder) → Around n x names tops ledgers
     → Made n x (names x) (tops x) (ledgers x) u → Finished n x u → index_of (ledgers x) u.cut.local ≡ Some l → x < n → y < n → (x ≡ y → ⊥)
     → CoversAll x (tops x) (tops y) (ledgers y) u y l
 cut_done n x y l names tops ledgers u around made done at_l small_x small_y other = record {
@@ -200,12 +189,12 @@ cut_done n x y l names tops ledgers u around made done at_l small_x small_y othe
             let s = of_source c x (tops c) (tops x) begins e.index e.entry e.heard.at e.heard.of in
             let out_e = out_there x c (tops c) (tops x) begins e.index e.entry e.heard.at e.heard.of in
             let mine : (h : Answers n c (tops c) (ledgers c) s.place (second_id u.id) e.answer e.entry) → h.asker ≡ x =
-            λ h. around.only h.asker (subst (λ to. goes_to x to ≡ true) h.to (right_true (is_of c e.entry) (goes_to x e.entry.to) out_e)) in
+            λ h. around.only h.asker (subst (λ to. goes_to x to ≡ true) h.to (and_second (is_of c e.entry) (goes_to x e.entry.to) out_e)) in
             let before = comes_after n x c y (names x) (tops x) (tops c) (tops y) (ledgers x) (ledgers c) (ledgers y) u
             (around.begins y x small_y small_x back) (around.begins x c small_x small_c (λ h. c_x (sym h)))
             (around.chain c y small_c small_y (λ h. c_x (sym h)) other c_y) made second (around.own c small_c).answering.answers (around.own y small_y).answering.answers
             s.place e.answer e.entry (record { at = s.is; of = e.heard.of; is = e.heard.is }) mine kept.0 (there.place - 1) kept.1 named i f at le from in
-            FromWhom.Third c s.place e.index e.entry begins (around.once c small_c) (both_true (is_of c f) (goes_to x f.to) from goes) out_e s.is e.heard.at
+            FromWhom.Third c s.place e.index e.entry begins (around.once c small_c) (and_of_both (is_of c f) (goes_to x f.to) from goes) out_e s.is e.heard.at
             (around.low e.index l u.cut.local (slice_get_within (tops x) e.index e.entry e.heard.at) e.low at_l) before
 
         by : (u.second ≡ true) ⊎ (n ≡ 2) → FromWhom x y (tops x) (tops y) tops l f
@@ -218,8 +207,8 @@ cut_done n x y l names tops ledgers u around made done at_l small_x small_y othe
     whom : (i : ℕ) (f : Entry) → i ≤ there.place - 1 → slice_get (tops y) i ≡ Some f → meant_for x f ≡ true → FromWhom x y (tops x) (tops y) tops l f
     whom i f le at meant =
         by_test (is_of x f) FromWhom.Own
-        (λ not_x. let goes = second_of (is_of x f) (goes_to x f.to) meant not_x in
-        by_test (is_of y f) (λ of_y. FromWhom.There (both_true (is_of y f) (goes_to x f.to) of_y goes)) (λ not_y. third i f le at not_x not_y goes))
+        (λ not_x. let goes = or_other (is_of x f) (goes_to x f.to) meant not_x in
+        by_test (is_of y f) (λ of_y. FromWhom.There (and_of_both (is_of y f) (goes_to x f.to) of_y goes)) (λ not_y. third i f le at not_x not_y goes))
 
     covers : (i : ℕ) (f : Entry) → i ≤ there.place - 1 → slice_get (tops y) i ≡ Some f → meant_for x f ≡ true → Below (tops x) (suc l) f
     covers i f le at meant =

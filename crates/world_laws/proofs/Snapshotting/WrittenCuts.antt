@@ -4,7 +4,7 @@ use Rattle.std.specs.Prelude.{Option, Some, None, if◌then◌else◌, replicate
 use Rattle.std.proofs.lemmas.Bool.{eqb-true}
 use Rattle.std.proofs.lemmas.Option.{none-some}
 use Rattle.world_laws.proofs.Types.{Cut, Position}
-use Rattle.geo_base.specs.Builder.{named, named_from}
+use Rattle.geo_base.specs.SnapshotBuilder.{named, named_from}
 use Rattle.geo_base.specs.Cache.{cut_of, with_places}
 
 abbrev Places : Type 0

@@ -1,4 +1,4 @@
--- Where an own update comes from: it is appended behind a write of the cursor of a subscription that is here, whose mark-delete
+-- Where an own update comes from: it is appended after a write of the cursor of a subscription that is here, whose mark-delete
 -- then passes a snapshot of its cache. Each plan is of this form, or appends no own update.
 use Rattle.std.proofs.Common.{◌≡◌, ℕ, zero, suc, ◌+◌, ◌<◌, Bool, true, false, List, [], ◌∷◌, ◌++◌, map, refl, sym, ap, subst, ◌∙◌, ◌==◌}
 use Rattle.std.specs.Prelude.{Option, Some, ◌&&◌, if◌then◌else◌, find, option_map, slice_get, take}
@@ -11,7 +11,7 @@ use Rattle.world_laws.proofs.Types.content
 use Rattle.world_laws.proofs.Types.marker
 use Rattle.world_laws.proofs.Types.write
 use Rattle.geo_base.specs.Broker.{Broker, Site, written}
-use Rattle.geo_base.specs.Builder.{named}
+use Rattle.geo_base.specs.SnapshotBuilder.{named}
 use Rattle.geo_base.specs.Cache.{last_passed}
 use Rattle.geo_base.specs.Cursor.{mark}
 use Rattle.geo_base.specs.Entry.{is_data}
@@ -22,7 +22,7 @@ use Rattle.geo_base.specs.Seeking.{restart}
 use Rattle.geo_base.specs.Setup.{Setup}
 use Rattle.geo_base.specs.Storing.{update_marker}
 use Rattle.geo_base.specs.Subscription.{Subscription, has_consumer, sought, with_acks}
-use Rattle.geo_base.specs.Updating.{passed_over}
+use Rattle.geo_base.specs.Updating.{updated_indexes}
 use Rattle.geo_base.specs.World.{World, site, topic_at}
 use Rattle.world_laws.proofs.TopicOrder.Added.{appended, came_other, sound_data}
 use Rattle.world_laws.proofs.Snapshotting.Building.{IsCached, differ, other_silent}
@@ -88,7 +88,7 @@ announcing_take F h b (suc zero) ws (Announcing.Update v n w cs cut rest stands 
 announcing_take F h b (suc (suc k)) ws (Announcing.Update v n w cs cut rest stands name moves cached passed aside quiet) =
     Announcing.Update v n w cs cut (take k rest) stands name moves cached passed (each_take Aside k rest aside) (each_take (Unannounced h.own) k rest quiet)
 
--- and with a new ledger behind it, as a stop leaves them
+-- and with a new ledger after it, as a stop leaves them
 announcing_opened : (F : CachedSnapshot → Type 0) (h : Site) (b : Broker) (ws : List Write) → Announcing F h b ws → Announcing F h b (ws ++ write.Ledger ∷ [])
 announcing_opened F h b ws (Announcing.Silent vs quiet) = Announcing.Silent _ (each_both (Unannounced h.own) ws (write.Ledger ∷ []) quiet (tt, tt))
 announcing_opened F h b ws (Announcing.Update v n w cs cut rest stands name moves cached passed aside quiet) =
@@ -100,7 +100,7 @@ announcing_halt F h b k ws a = announcing_opened F h b (take k ws) (announcing_t
 
 -- WHAT AN OWN UPDATE THEN SAYS
 
--- of a snapshot below the mark-delete of a subscription of its name, c being the topic behind the writes
+-- of a snapshot below the mark-delete of a subscription of its name, c being the topic after the writes
 pub record Announced (F : CachedSnapshot → Type 0) (c : Broker) (n : List ℕ) (remote : List ClusterPosition) : Type 0 where
   pub snapshot : CachedSnapshot
   pub fact : F snapshot
@@ -138,7 +138,7 @@ moved_name v w m = absurd m
 aside_written : (per : ℕ) (b : Broker) (ws : List Write) → Each Aside ws → (all_written per b ws).subs ≡ b.subs
 aside_written per b [] h = refl
 aside_written per b (write.Append e ∷ ws) h = aside_written per (written per b (write.Append e)) ws h.1
-aside_written per b (write.SenderAck y i ∷ ws) h = aside_written per (written per b (write.SenderAck y i)) ws h.1
+aside_written per b (write.ReplicatorAck y i ∷ ws) h = aside_written per (written per b (write.ReplicatorAck y i)) ws h.1
 aside_written per b (write.SessionNumber y n ∷ ws) h = aside_written per (written per b (write.SessionNumber y n)) ws h.1
 aside_written per b (write.Ledger ∷ ws) h = aside_written per (written per b write.Ledger) ws h.1
 aside_written per b (w ∷ ws) h = absurd h.0
@@ -268,10 +268,10 @@ reads_announcing F h b y q old (Reads.Counts i e id answer u u' next is heard) =
 reads_announcing F h b y q old (Reads.AsksAgain i e id answer u u' next is heard) = Announcing.Silent _ (refl, (tt, tt))
 reads_announcing F h b y q old (Reads.Completes i e id answer u u' next is heard) = Announcing.Silent _ (refl, (tt, tt))
 reads_announcing F h b y q old (Reads.CreatesAt i j e n remote next is absent) = Announcing.Silent _ (tt, (tt, (tt, tt)))
-reads_announcing F h b y q old (Reads.PassesOver i j e n remote v ws next is found after) =
-    let acks = with_acks (passed_over y 0 (j + 1) b.entries) in
+reads_announcing F h b y q old (Reads.ActsOnUpdate i j e n remote v ws next is found after) =
+    let acks = with_acks (updated_indexes y 0 (j + 1) b.entries) in
     let s = find_stands (λ (u : Subscription). bytes_eq u.name n) b.subs v found in
-    moved F h b v (acks v) (write.Acks n (passed_over y 0 (j + 1) b.entries)) ws (write.SenderAck y i ∷ []) s.0 refl tt (cursor_named n acks v s.1)
+    moved F h b v (acks v) (write.Acks n (updated_indexes y 0 (j + 1) b.entries)) ws (write.ReplicatorAck y i ∷ []) s.0 refl tt (cursor_named n acks v s.1)
     (old s.0.place v s.0.is) (tt, tt) (tt, tt) after
 
 snaps_announcing : (F : CachedSnapshot → Type 0) (h : Site) (b : Broker) (q : Plan) → Snaps h b q → Announcing F h b q.writes
@@ -282,7 +282,7 @@ offers_announcing : (F : CachedSnapshot → Type 0) (h : Site) (b : Broker) (n :
     → Offers h b n q → Announcing F h b q.writes
 offers_announcing F h b n q old new Offers.NothingToOffer = Announcing.Silent _ tt
 offers_announcing F h b n q old new (Offers.Gives v i at e due is picked) = Announcing.Silent _ tt
-offers_announcing F h b n q old new (Offers.PassesBy v i e ws due is after) =
+offers_announcing F h b n q old new (Offers.SkipsMarker v i e ws due is after) =
     let s = (find_stands (λ (u : Subscription). bytes_eq u.name n) b.subs v due.0).0 in
     moved_last F h b v (with_acks (i ∷ []) v) (write.Acks v.name (i ∷ [])) ws s refl tt (cursor_at (with_acks (i ∷ [])) v) (old s.place v s.is) after
 offers_announcing F h b n q old new (Offers.Caches v i j e c ws due is after) =

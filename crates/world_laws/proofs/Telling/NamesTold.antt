@@ -93,7 +93,7 @@ passed_told told t n c F remote only u k f le at message =
     let P : Entry → Type 0 = λ e. is_data e.content ≡ true → IsSettled told t u.sub.name e in
     subst (λ (m : List ℕ). IsSettled told t m f) u.name (subst P same o.2 message)
 
--- c is the topic behind the writes that append it
+-- c is the topic after the writes that append it
 update_named : (s : Setup) (w : World) (told : SettledSoFar) (t x : ℕ) (c : Broker) (n : List ℕ) (remote : List ClusterPosition) → Lengthened (topic_at s w t x) c
     → AllSubs (OnlyTold told t c.entries) c → Announced (IsCachedCut s w t x (topic_at s w t x).ledgers) c n remote → UpdateTold s w told t x n remote
 update_named s w told t x c n remote g only u y small other = (
@@ -118,7 +118,7 @@ update_named s w told t x c n remote g only u y small other = (
 
 -- THE TOPIC OF AN EVENT
 
--- behind its writes, or some of them; w' is the world after
+-- after its writes, or some of them; w' is the world after
 pub names_after : (s : Setup) (w w' : World) (told : SettledSoFar) (t x from : ℕ) → IsThere s t x → Everywhere s (AnswersAt s) w → Grown s w w' → (ws : List Write)
     → Announcing (IsCachedCut s w t x (topic_at s w t x).ledgers) (site s t x) (topic_at s w t x) ws
     → AllSubs (OnlyTold told t (all_written s.per_ledger (topic_at s w t x) ws).entries) (all_written s.per_ledger (topic_at s w t x) ws)

@@ -12,7 +12,7 @@ use Rattle.world_laws.proofs.Types.write
 use Rattle.geo_base.specs.Broker.{Broker, changed, sub_named, written}
 use Rattle.geo_base.specs.Cache.{cached}
 use Rattle.geo_base.specs.Cursor.{below, has}
-use Rattle.geo_base.specs.Dispatcher.{given, passed_index}
+use Rattle.geo_base.specs.Dispatcher.{given, skipped_index}
 use Rattle.geo_base.specs.Entry.{same_ident}
 use Rattle.geo_base.specs.Plan.{all_changed, all_written}
 use Rattle.geo_base.specs.Settled.{SettledSoFar}
@@ -122,7 +122,7 @@ one_write told t per b (write.Acks n is) new h =
 one_write told t per b (write.Seek n j) new h =
     each_to (OnlyTold told t b.entries) (OnlyTold told t b.entries) (at_name n (sought j))
     (named_only told t b.entries n (sought j) (λ v same k. sought_told told t b.entries v j (λ i lt. same_name told t b.entries v.name n i same (new i lt)))) b.subs h
-one_write told t per b (write.SenderAck y i) new h = h
+one_write told t per b (write.ReplicatorAck y i) new h = h
 one_write told t per b (write.SessionNumber y n) new h = h
 one_write told t per b write.Ledger new h = h
 
@@ -145,7 +145,7 @@ one_change told t b c h = by c
     by (change.Attach n k) = named n (attached k) (λ v p. p)
     by (change.Detach c) = each_to O O (detached c) (λ v p. p) b.subs h
     by (change.Permit n c permits) = named n (permitted c permits) (λ v p. p)
-    by (change.Passed n i) = named n (passed_index i) (λ v p. p)
+    by (change.Skipped n i) = named n (skipped_index i) (λ v p. p)
     by (change.Given n i at) = named n (given i at) (λ v p. p)
     by (change.Cache n c) = named n (λ s. record s { cache = cached s.cache c }) (λ v p. p)
     by (change.Acked n) = named n after_acks (λ v p. p)

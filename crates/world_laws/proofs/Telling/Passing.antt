@@ -5,10 +5,10 @@ use Rattle.std.proofs.lemmas.Bool.{eq-eqb, eqb-true, false≢true}
 use Rattle.std.proofs.lemmas.Bool.Decides.{nat_tests}
 use Rattle.std.proofs.lemmas.Option.{none-some, same_Some}
 use Rattle.world_laws.proofs.Types.{CachedSnapshot, Cut, Entry, Position}
-use Rattle.geo_base.specs.Builder.{named_from}
+use Rattle.geo_base.specs.SnapshotBuilder.{named_from}
 use Rattle.geo_base.specs.Cache.{any_passed, last_passed}
 use Rattle.geo_base.specs.Cursor.{has, mark_from}
-use Rattle.geo_base.specs.Updating.{only_index, passed_over, passes, positions_for}
+use Rattle.geo_base.specs.Updating.{only_index, updated_indexes, is_updated, positions_for}
 use Rattle.geo_base.specs.Topic.{index_of}
 use Rattle.world_laws.proofs.OnceInOrder.Members.{Stands}
 use Rattle.world_laws.proofs.Walks.Walk.{by_test}
@@ -86,23 +86,23 @@ pub record IsPassedOver (y k n : ℕ) (es : List Entry) (i : ℕ) : Type 0 where
   pub is : i ≡ k + place
   pub small : place < n
   pub at : slice_get es place ≡ Some entry
-  pub passed : passes y entry ≡ true
+  pub passed : is_updated y entry ≡ true
 
-pub passed_over_is : (y k n : ℕ) (es : List Entry) (i : ℕ) → has (passed_over y k n es) i ≡ true → IsPassedOver y k n es i
+pub passed_over_is : (y k n : ℕ) (es : List Entry) (i : ℕ) → has (updated_indexes y k n es) i ≡ true → IsPassedOver y k n es i
 passed_over_is y k zero es i h = absurd (false≢true h)
 passed_over_is y k (suc n) [] i h = absurd (false≢true h)
 passed_over_is y k (suc n) (e ∷ es) i h =
-    let next : has (passed_over y (k + 1) n es) i ≡ true → IsPassedOver y k (suc n) (e ∷ es) i =
+    let next : has (updated_indexes y (k + 1) n es) i ≡ true → IsPassedOver y k (suc n) (e ∷ es) i =
     λ g. let p = passed_over_is y (k + 1) n es i g in
     record { place = suc p.place; entry = p.entry; is = omega (arith, p.is); small = omega (arith, p.small); at = p.at; passed = p.passed } in
-    by_test (passes y e)
+    by_test (is_updated y e)
     (λ t.
-    let h' : ((k == i) || has (passed_over y (k + 1) n es) i) ≡ true =
-    subst (λ (b : Bool). has (if b then k ∷ passed_over y (k + 1) n es else passed_over y (k + 1) n es) i ≡ true) t h in
+    let h' : ((k == i) || has (updated_indexes y (k + 1) n es) i) ≡ true =
+    subst (λ (b : Bool). has (if b then k ∷ updated_indexes y (k + 1) n es else updated_indexes y (k + 1) n es) i ≡ true) t h in
     by_test (k == i)
     (λ here. record { place = zero; entry = e; is = omega (arith, eqb-true k i here); small = omega arith; at = refl; passed = t })
-    (λ there. next (subst (λ (b : Bool). (b || has (passed_over y (k + 1) n es) i) ≡ true) there h')))
-    (λ f. next (subst (λ (b : Bool). has (if b then k ∷ passed_over y (k + 1) n es else passed_over y (k + 1) n es) i ≡ true) f h))
+    (λ there. next (subst (λ (b : Bool). (b || has (updated_indexes y (k + 1) n es) i) ≡ true) there h')))
+    (λ f. next (subst (λ (b : Bool). has (if b then k ∷ updated_indexes y (k + 1) n es else updated_indexes y (k + 1) n es) i ≡ true) f h))
 
 -- the one index that an update names, where it names one position
 pub one_index : (ls : List ℕ) (ps : List Position) (p : Position) (i j : ℕ) → ps ≡ p ∷ [] → index_of ls p ≡ Some i → only_index ls ps ≡ Some j → i ≡ j

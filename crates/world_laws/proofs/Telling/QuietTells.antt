@@ -19,7 +19,7 @@ use Rattle.geo_base.specs.Serving.{drop_client, drop_session}
 use Rattle.geo_base.specs.Settled.{SettledSoFar}
 use Rattle.geo_base.specs.Setup.{Setup, sub_name}
 use Rattle.geo_base.specs.Subscription.{Subscription}
-use Rattle.geo_base.specs.Updating.{passed_over, passes, positions_for}
+use Rattle.geo_base.specs.Updating.{updated_indexes, is_updated, positions_for}
 use Rattle.geo_base.specs.World.{World, site, topic_at}
 use Rattle.world_laws.proofs.OnceInOrder.Appends.{written_entries}
 use Rattle.world_laws.proofs.Replicating.Effects.{Each, each_both}
@@ -68,7 +68,7 @@ marker_told told t n es i e at other j h =
 offers_tell : (told : SettledSoFar) (t : ℕ) (h : Site) (b : Broker) (n : List ℕ) (q : Plan) → Offers h b n q → Tells told t h.per_ledger b q.writes
 offers_tell told t h b n q Offers.NothingToOffer = tt
 offers_tell told t h b n q (Offers.Gives v i at e due is picked) = tt
-offers_tell told t h b n q (Offers.PassesBy v i e ws due is after) =
+offers_tell told t h b n q (Offers.SkipsMarker v i e ws due is after) =
     (marker_told told t v.name b.entries i e due.2 is, gains_none told t h.per_ledger (written h.per_ledger b (write.Acks v.name (i ∷ []))) ws (updates_gain h b _ ws after))
 offers_tell told t h b n q (Offers.Caches v i j e c ws due is after) = (
   marker_told told t v.name b.entries i e due.2 (ap is_data is.3),
@@ -77,12 +77,12 @@ offers_tell told t h b n q (Offers.Caches v i j e c ws due is after) = (
 
 -- UPDATES OF OTHER CLUSTERS
 
-meant : (y : ℕ) (e : Entry) → passes y e ≡ true → is_data e.content ≡ true → meant_for y e ≡ true
+meant : (y : ℕ) (e : Entry) → is_updated y e ≡ true → is_data e.content ≡ true → meant_for y e ≡ true
 meant y e h message = subst (λ (t : Bool). (not t || meant_for y e) ≡ true) message h
 
 -- j is the index that an update of y names here
 passed_over_told : (told : SettledSoFar) (t y j : ℕ) (n : List ℕ) (remote : List ClusterPosition) (x : ℕ) (b : Broker) → (names : NamesTo told t y n remote x b)
-    → names.1 ≡ j → (i : ℕ) → has (passed_over y 0 (j + 1) b.entries) i ≡ true → IsTold told t n b.entries i
+    → names.1 ≡ j → (i : ℕ) → has (updated_indexes y 0 (j + 1) b.entries) i ≡ true → IsTold told t n b.entries i
 passed_over_told told t y j n remote x b names same i h =
     let o = passed_over_is y 0 (j + 1) b.entries i h in
     let small = o.small in let at = o.is in
@@ -98,7 +98,7 @@ ReadsTold s w told = (t x y i j : ℕ) (e : Entry) (n : List ℕ) (remote : List
 -- the update e of y stands at index i of x's topic
 names_here : (s : Setup) (w : World) (told : SettledSoFar) (t x y i j : ℕ) (e : Entry) (n : List ℕ) (remote : List ClusterPosition) → ReadsTold s w told → IsThere s t x
     → ReadsNext (site s t x) (topic_at s w t x) y i e → IsUpdate (site s t x) (topic_at s w t x) y e n remote j
-    → (m : ℕ) → has (passed_over y 0 (j + 1) (topic_at s w t x).entries) m ≡ true → IsTold told t n (topic_at s w t x).entries m
+    → (m : ℕ) → has (updated_indexes y 0 (j + 1) (topic_at s w t x).entries) m ≡ true → IsTold told t n (topic_at s w t x).entries m
 names_here s w told t x y i j e n remote read there next is =
     let b = topic_at s w t x in
     let names = read t x y i j e n remote there next is x there.1 (remote_other (site s t x) y next.0) in
@@ -120,14 +120,14 @@ reads_tell s w told t x y q read there (Reads.Completes i e id answer u u' next 
 reads_tell s w told t x y q read there (Reads.CreatesAt i j e n remote next is absent) =
     let b = topic_at s w t x in
     let same = written_entries s.per_ledger b (write.Create n sub_kind.Exclusive true false ∷ []) in
-    let P : List Entry → Type 0 = λ es. (m : ℕ) → has (passed_over y 0 (j + 1) b.entries) m ≡ true → IsTold told t n es m in
+    let P : List Entry → Type 0 = λ es. (m : ℕ) → has (updated_indexes y 0 (j + 1) b.entries) m ≡ true → IsTold told t n es m in
     (create_none told t n b, (subst P (sym same) (names_here s w told t x y i j e n remote read there next is), (tt, tt)))
-reads_tell s w told t x y q read there (Reads.PassesOver i j e n remote v ws next is found after) =
+reads_tell s w told t x y q read there (Reads.ActsOnUpdate i j e n remote v ws next is found after) =
     let b = topic_at s w t x in
-    let acks = write.Acks n (passed_over y 0 (j + 1) b.entries) in (
+    let acks = write.Acks n (updated_indexes y 0 (j + 1) b.entries) in (
       names_here s w told t x y i j e n remote read there next is,
-      gains_none told t s.per_ledger (written s.per_ledger b acks) (ws ++ write.SenderAck y i ∷ [])
-          (each_both GainsNone ws (write.SenderAck y i ∷ []) (updates_gain (site s t x) b _ ws after) (tt, tt)),
+      gains_none told t s.per_ledger (written s.per_ledger b acks) (ws ++ write.ReplicatorAck y i ∷ [])
+          (each_both GainsNone ws (write.ReplicatorAck y i ∷ []) (updates_gain (site s t x) b _ ws after) (tt, tt)),
     )
 
 -- ALL ELSE

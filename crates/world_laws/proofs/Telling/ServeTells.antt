@@ -7,7 +7,6 @@ use Rattle.std.specs.Str.{bytes_eq}
 use Rattle.std.proofs.lemmas.Bool.{eq-eqb, eqb-true, false≢true}
 use Rattle.std.proofs.lemmas.Bool.Decides.{nat_tests}
 use Rattle.std.proofs.lemmas.Option.{none-some, same_Some, slice_get_cases}
-use Rattle.std.proofs.lemmas.Slice.Eq.{bytes_eq-Decides}
 use Rattle.world_laws.proofs.Types.{AckKind, Entry, Event, Frame, Ident, Packet, Position, Session, SubKind}
 use Rattle.world_laws.proofs.Types.ack_kind
 use Rattle.world_laws.proofs.Types.event
@@ -42,6 +41,7 @@ use Rattle.world_laws.proofs.Walks.ServeWalk.{frame_served}
 use Rattle.world_laws.proofs.Walks.Shapes.{InSession, MayJoin, Seeks, Served}
 use Rattle.world_laws.proofs.Telling.Told.{IsTold, Tells, TellsAll, ToldOver, told_now, told_too}
 use Rattle.world_laws.proofs.Walks.Walk.{both, by_test, left, on_if, on_test, on_true, right}
+use Rattle.geo_base.proofs.Lists.{bytes_eq_itself}
 
 -- TESTS
 
@@ -171,16 +171,13 @@ in_session n b topic c p s f at is =
     subst R (sym at.0)
     (on_true (s.number == p.session) (settled_by_command n b topic c p.frame) [] at.1 ∙ ap (settled_by_command n b topic c) is)
 
-names_itself : (n : List ℕ) → bytes_eq n n ≡ true
-names_itself n = (bytes_eq-Decides n n).1 refl
-
 -- an ACK names what it puts into the cursor
 pub ack_names : (b : Broker) (topic : List ℕ) (c : ℕ) (p : Packet) (s : Session) (id : ℕ) (kind : AckKind) (ps : List Position) (v : Subscription)
     → InSession b c p s → p.frame ≡ frame.Ack id kind ps → consumed_by b.subs c id ≡ Some v
     → settled_by_packet v.name b topic c (Some p) ≡ acked_indexes b.ledgers v.kind ps kind
 ack_names b topic c p s id kind ps v at is by =
     in_session v.name b topic c p s (frame.Ack id kind ps) at is ∙ ap (acked_on v.name b kind ps) by
-    ∙ on_true (bytes_eq v.name v.name) (named_by_ack b.ledgers v.kind kind ps) [] (names_itself v.name) ∙ sym (acks_same b.ledgers v.kind ps kind)
+    ∙ on_true (bytes_eq v.name v.name) (named_by_ack b.ledgers v.kind kind ps) [] (bytes_eq_itself v.name) ∙ sym (acks_same b.ledgers v.kind ps kind)
 
 -- a creation at Latest passes over all that is there
 pub creation_names : (b : Broker) (h : Site) (c : ℕ) (p : Packet) (s : Session) (topic n : List ℕ) (kind : SubKind) (id request : ℕ) (consumer : Option (List ℕ)) (earliest replicated : Bool)
@@ -189,7 +186,7 @@ pub creation_names : (b : Broker) (h : Site) (c : ℕ) (p : Packet) (s : Session
 creation_names b h c p s topic n kind id request consumer earliest replicated at is may none late =
     in_session n b h.topic c p s (frame.Subscribe topic n kind id request consumer earliest replicated) at is
     ∙ on_true (bytes_eq n n && not earliest && is_created b h.topic c topic n) (first_indexes (length b.entries)) []
-    (both (bytes_eq n n && not earliest) _ (both (bytes_eq n n) (not earliest) (names_itself n) late) created)
+    (both (bytes_eq n n && not earliest) _ (both (bytes_eq n n) (not earliest) (bytes_eq_itself n) late) created)
   where
     of_topic : (bytes_eq topic h.topic && is_name n) ≡ true
     of_topic = left (bytes_eq topic h.topic && is_name n) (has_room b n) may.0
@@ -277,7 +274,7 @@ pub seek_settles : (s : Setup) (w : World) (t x m : ℕ) (to : Option Position) 
 unfolding settled_event
 seek_settles s w t x m to there =
     let n = sub_name s t m in let is_t = t == t in let is_sub = has_sub s t x m in
-    on_true (is_t && is_sub && bytes_eq n n) _ [] (both (is_t && is_sub) (bytes_eq n n) (both is_t is_sub (eq-eqb t t refl) there) (names_itself n))
+    on_true (is_t && is_sub && bytes_eq n n) _ [] (both (is_t && is_sub) (bytes_eq n n) (both is_t is_sub (eq-eqb t t refl) there) (bytes_eq_itself n))
 
 -- what an event settles, added to what is told
 abbrev Now : Setup → SettledSoFar → World → Event → SettledSoFar

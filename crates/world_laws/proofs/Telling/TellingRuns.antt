@@ -22,7 +22,7 @@ use Rattle.world_laws.proofs.Telling.OnlyTold.{first_included}
 use Rattle.world_laws.proofs.Telling.Told.{Includes, nothing_told, told_too}
 use Rattle.world_laws.proofs.Walks.Walk.{on_elim, on_if}
 
--- what is told behind an event, and behind the first of its writes
+-- what is told after an event, and after the first of its writes
 abbrev pub after_event : Telling → SettledSoFar → World → Event → SettledSoFar
 after_event tells told w e = told_too told (λ t n. tells.event w t n e)
 

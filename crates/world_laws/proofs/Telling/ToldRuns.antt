@@ -43,7 +43,7 @@ pub rounds_none : (ps : List Pair) → Each (λ e. settles_none e ≡ true) (rou
 rounds_none [] = tt
 rounds_none (p ∷ ps) = (refl, (refl, (refl, rounds_none ps)))
 
--- behind so many writes
+-- after so many writes
 abbrev Behind : Setup → SettledSoFar → World → ℕ → Event → SettledSoFar
 Behind s told w k e = told_too told (λ t n. settled_behind k s w t n e)
 

@@ -37,7 +37,7 @@ use Rattle.world_laws.proofs.Dispatching.SubFrames.{AllSubs}
 use Rattle.world_laws.proofs.Telling.Told.{HasTold, HasToldFrom, Includes, IsToldKept, NamesTold, OnlyTold, Tells, TellsAll, TellsAt, ToldIn, ToldSince, ToldOver, from_first, nothing_told, told_now, told_too}
 use Rattle.world_laws.proofs.Walks.Walk.{on_if}
 
--- THE TOPIC OF AN EVENT, behind writes and changes of it
+-- THE TOPIC OF AN EVENT, after writes and changes of it
 
 pub event_told : (from : ℕ → ℕ → ℕ) (s : Setup) (w w' : World) (told : SettledSoFar) (t x : ℕ) → IsThere s t x → Knows s w → Grown s w w' → (ws : List Write) (cs : List Change)
     → Announcing (IsCachedCut s w t x (topic_at s w t x).ledgers) (site s t x) (topic_at s w t x) ws → Tells told t s.per_ledger (topic_at s w t x) ws

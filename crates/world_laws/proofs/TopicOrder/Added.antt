@@ -1,17 +1,17 @@
 -- What each event appends, and why it may: messages, entries that came from another cluster, and own markers.
-use Rattle.std.proofs.Common.{◌≡◌, ℕ, zero, suc, ◌<◌, Bool, true, List, [], ◌∷◌, ◌++◌, length, refl, sym, ap, subst, ◌∙◌, ◌==◌, arith, append_assoc}
-use Rattle.std.specs.Prelude.{Option, Some, None, ◌&&◌, nat_le, nat_lt, not, slice_get, is_none, take}
+use Rattle.std.proofs.Common.{◌≡◌, ℕ, zero, suc, ◌<◌, true, List, [], ◌∷◌, ◌++◌, length, refl, sym, ap, subst, ◌∙◌, ◌==◌, append_assoc}
+use Rattle.std.specs.Prelude.{Option, Some, None, nat_le, nat_lt, not, slice_get, is_none, take}
 use Rattle.std.specs.Str.{bytes_eq}
 use Rattle.std.proofs.lemmas.Bool.{ltb-true}
 use Rattle.std.proofs.lemmas.List.{append-nil}
 use Rattle.std.proofs.lemmas.Option.{none-some}
-use Rattle.world_laws.proofs.Types.{Builder, ClusterPosition, Cut, Entry, Packet, Place, Position, Write}
+use Rattle.world_laws.proofs.Types.{SnapshotBuilder, ClusterPosition, Cut, Entry, Packet, ClusterRef, Position, Write}
 use Rattle.world_laws.proofs.Types.content
 use Rattle.world_laws.proofs.Types.marker
 use Rattle.world_laws.proofs.Types.progress
 use Rattle.world_laws.proofs.Types.write
 use Rattle.geo_base.specs.Broker.{Broker, Site, cluster_name}
-use Rattle.geo_base.specs.Builder.{current_id, snapshot_id}
+use Rattle.geo_base.specs.SnapshotBuilder.{current_id, snapshot_id}
 use Rattle.geo_base.specs.Entry.{is_data, with_origin}
 use Rattle.geo_base.specs.Forwarding.{closes}
 use Rattle.geo_base.specs.Link.{next_packet}
@@ -31,6 +31,7 @@ use Rattle.world_laws.proofs.Walks.EventWalk.{of_node, of_pair, of_target}
 use Rattle.world_laws.proofs.TopicOrder.NoSelf.{NoSelf, remote_other}
 use Rattle.world_laws.proofs.Walks.Shapes.{Answered, Fated, Hears, IsResponse, Offers, Reads, ReadsNext, Seeks, Served, Shape, Snaps, Taken, Updates}
 use Rattle.world_laws.proofs.Walks.Walk.{left}
+use Rattle.geo_base.proofs.Bools.{and_fourth_of_five}
 
 -- the entries that writes append, in order
 abbrev pub appended : List Write → List Entry
@@ -38,7 +39,7 @@ appended [] = []
 appended (write.Append e ∷ ws) = e ∷ appended ws
 appended (w ∷ ws) = appended ws
 
--- they come behind those that stand
+-- they come after those that stand
 pub after_is : (es : List Entry) (ws : List Write) → after_writes es ws ≡ es ++ appended ws
 after_is es [] = sym (append-nil es)
 after_is es (write.Append e ∷ ws) = after_is (es ++ e ∷ []) ws ∙ append_assoc es (e ∷ []) (appended ws)
@@ -61,11 +62,11 @@ pub data Added (h : Site) (b : Broker) : Entry → Type 0 where
   Published : (e : Entry) → e.ident.origin ≡ h.own → is_data e.content ≡ true → Added h b e
   Came : (e : Entry) (z : ℕ) → z < length h.clusters → (z ≡ h.own → ⊥) → e.ident.origin ≡ z → Added h b e
   Asked : b.builder ≡ None → Added h b (request_marker h b (snapshot_id (cluster_name h h.own) (next_position h.per_ledger b.ledgers)))
-  AskedAgain : (y i : ℕ) (e : Entry) (id : List ℕ) (answer : ClusterPosition) (u u' : Builder) → ReadsNext h b y i e → IsResponse h b y e id answer u
+  AskedAgain : (y i : ℕ) (e : Entry) (id : List ℕ) (answer : ClusterPosition) (u u' : SnapshotBuilder) → ReadsNext h b y i e → IsResponse h b y e id answer u
       → Hears b y i id answer u progress.SecondRound u' → Added h b (request_marker h b (current_id u'))
-  Responded : (y i : ℕ) (e : Entry) (id : List ℕ) (source : Place) → y < length h.clusters → (y ≡ h.own → ⊥) → slice_get b.entries i ≡ Some e
+  Responded : (y i : ℕ) (e : Entry) (id : List ℕ) (source : ClusterRef) → y < length h.clusters → (y ≡ h.own → ⊥) → slice_get b.entries i ≡ Some e
       → (e.ident.origin == y) ≡ true → e.content ≡ content.Marked (marker.Request id source) → Added h b (response_marker h b y id)
-  Completed : (y i : ℕ) (e : Entry) (id : List ℕ) (answer : ClusterPosition) (u u' : Builder) → ReadsNext h b y i e → IsResponse h b y e id answer u
+  Completed : (y i : ℕ) (e : Entry) (id : List ℕ) (answer : ClusterPosition) (u u' : SnapshotBuilder) → ReadsNext h b y i e → IsResponse h b y e id answer u
       → Hears b y i id answer u progress.Done u' → Added h b (snapshot_marker h b u')
   Updated : (v : Subscription) (cut : Cut) → Added h b (update_marker h b v.name cut)
 
@@ -84,22 +85,18 @@ adds_beginning h b (suc zero) es (Adds.Two e f z small other of of') = Adds.One 
 adds_beginning h b (suc (suc zero)) es (Adds.Two e f z small other of of') = Adds.Two e f z small other of of'
 adds_beginning h b (suc (suc (suc j))) es (Adds.Two e f z small other of of') = Adds.Two e f z small other of of'
 
--- behind a beginning of the writes
+-- after a beginning of the writes
 pub adds_take : (h : Site) (b : Broker) (k : ℕ) (ws : List Write) → Adds h b (appended ws) → Adds h b (appended (take k ws))
 adds_take h b k ws a = let r = appended_take k ws in subst (Adds h b) (sym r.1) (adds_beginning h b r.0 (appended ws) a)
 
--- and behind a stop there
+-- and after a stop there
 pub adds_halt : (h : Site) (b : Broker) (k : ℕ) (ws : List Write) → Adds h b (appended ws) → Adds h b (appended (take k ws ++ write.Ledger ∷ []))
 adds_halt h b k ws a =
     subst (Adds h b) (sym (appended_both (take k ws) (write.Ledger ∷ []) ∙ append-nil (appended (take k ws)))) (adds_take h b k ws a)
 
--- each shape
-fourth : (a b c d e : Bool) → (a && b && c && d && e) ≡ true → d ≡ true
-fourth a b c d e h = grind (arith, h)
-
-pub sound_data : (h : Site) (n : List ℕ) (seq : ℕ) (source : Option Place) (e : Entry) → is_sound h n seq source e ≡ true → is_data e.content ≡ true
+pub sound_data : (h : Site) (n : List ℕ) (seq : ℕ) (source : Option ClusterRef) (e : Entry) → is_sound h n seq source e ≡ true → is_data e.content ≡ true
 sound_data h n seq source e sound =
-    fourth (bytes_eq n e.ident.producer) (seq == e.ident.seq) (is_none source) (is_data e.content) (nat_le (entry_size h.clusters e) most_entry_size) sound
+    and_fourth_of_five (bytes_eq n e.ident.producer) (seq == e.ident.seq) (is_none source) (is_data e.content) (nat_le (entry_size h.clusters e) most_entry_size) sound
 
 updates_adds : (h : Site) (b : Broker) (v : Subscription) (ws : List Write) → Updates h b v ws → Adds h b (appended ws)
 updates_adds h b v ws Updates.NoUpdate = Adds.Nothing
@@ -178,8 +175,8 @@ reads_adds h b y q (Reads.Counts i e id answer u u' next is heard) = Adds.Nothin
 reads_adds h b y q (Reads.AsksAgain i e id answer u u' next is heard) = Adds.One _ (Added.AskedAgain y i e id answer u u' next is heard)
 reads_adds h b y q (Reads.Completes i e id answer u u' next is heard) = Adds.One _ (Added.Completed y i e id answer u u' next is heard)
 reads_adds h b y q (Reads.CreatesAt i j e n remote next is named) = Adds.Nothing
-reads_adds h b y q (Reads.PassesOver i j e n remote v ws next is named after) =
-    subst (Adds h b) (sym (appended_both ws (write.SenderAck y i ∷ []) ∙ append-nil (appended ws))) (updates_adds h b _ ws after)
+reads_adds h b y q (Reads.ActsOnUpdate i j e n remote v ws next is named after) =
+    subst (Adds h b) (sym (appended_both ws (write.ReplicatorAck y i ∷ []) ∙ append-nil (appended ws))) (updates_adds h b _ ws after)
 
 snaps_adds : (h : Site) (b : Broker) (q : Plan) → Snaps h b q → Adds h b (appended q.writes)
 snaps_adds h b q Snaps.NothingToAsk = Adds.Nothing
@@ -188,7 +185,7 @@ snaps_adds h b q (Snaps.Asks any none) = Adds.One _ (Added.Asked none)
 offers_adds : (h : Site) (b : Broker) (n : List ℕ) (q : Plan) → Offers h b n q → Adds h b (appended q.writes)
 offers_adds h b n q Offers.NothingToOffer = Adds.Nothing
 offers_adds h b n q (Offers.Gives v i at e due is picked) = Adds.Nothing
-offers_adds h b n q (Offers.PassesBy v i e ws due is after) = updates_adds h b _ ws after
+offers_adds h b n q (Offers.SkipsMarker v i e ws due is after) = updates_adds h b _ ws after
 offers_adds h b n q (Offers.Caches v i j e c ws due is after) = updates_adds h b _ ws after
 
 seeks_adds : (h : Site) (b : Broker) (n : List ℕ) (to : Option Position) (q : Plan) → Seeks h b n to q → Adds h b (appended q.writes)

@@ -89,7 +89,7 @@ pub opened_some : (ls : List ℕ) → 0 < length (ls ++ 0 ∷ [])
 opened_some [] = omega arith
 opened_some (l ∷ ls) = omega arith
 
--- the position of an index is in the first ledger or behind it
+-- the position of an index is in the first ledger or after it
 position_after : (ls : List ℕ) (k i : ℕ) → i < total ls → k ≤ (or_first (position_from ls k i)).ledger
 position_after [] k i lt = absurd (omega (arith, lt))
 position_after (l ∷ ls) k i lt = go (nat_lt i l) refl (position_after ls (k + 1) (i - l))

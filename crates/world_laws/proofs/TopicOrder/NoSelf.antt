@@ -24,7 +24,7 @@ use Rattle.world_laws.proofs.Induction.Runs.{IsKept}
 use Rattle.world_laws.proofs.Walks.Shapes.{Reads, Shape}
 use Rattle.world_laws.proofs.Walks.Walk.{on_if, right}
 
--- nothing goes to the own cluster's sender
+-- nothing goes to the own cluster's replicator
 abbrev Elsewhere : ℕ → Plan → Type 0
 Elsewhere own p = Each (λ (o : Out). ElsePeer own o.to) p.sent
 
@@ -35,7 +35,7 @@ remote_other h y remote is = other (y == h.own) (right (nat_lt y (length h.clust
     other true h k = false≢true h
     other false h k = false≢true k
 
--- what reaches no sender at all may be said to reach another one
+-- what reaches no replicator at all may be said to reach another one
 any_out : (own : ℕ) (p : Plan) → Outgoing own (suc own) p → Elsewhere own p
 any_out own p o =
     each_map (OutgoingOut (suc own)) (λ (o : Out). ElsePeer own o.to) (λ o h. out_peer own (suc own) (λ is. omega (arith, is)) o.to h) p.sent o.sent
@@ -49,7 +49,7 @@ reads_elsewhere h b y q (Reads.Counts i e id answer u u' next is heard) = tt
 reads_elsewhere h b y q (Reads.AsksAgain i e id answer u u' next is heard) = tt
 reads_elsewhere h b y q (Reads.Completes i e id answer u u' next is heard) = tt
 reads_elsewhere h b y q (Reads.CreatesAt i j e n remote next is named) = tt
-reads_elsewhere h b y q (Reads.PassesOver i j e n remote v ws next is named after) = tt
+reads_elsewhere h b y q (Reads.ActsOnUpdate i j e n remote v ws next is named after) = tt
 
 shape_elsewhere : (s : Setup) (w : World) (p : Planned) → Shape s w p → Elsewhere p.cluster p.plan
 unfolding restart

@@ -137,7 +137,7 @@ order_kept x y near far begins once_near once_far i b k e f at_i at_b lt out_f o
         ]
 
 -- The second round on values: r of y stands at x, at m, before each request of its own that x asked again with; y had stored r
--- behind index l. c has stored such a request, at k. Then what y has of c at or below l stood at c before that request.
+-- after index l. c has stored such a request, at k. Then what y has of c at or below l stood at c before that request.
 pub round_two : (x c y : ℕ) (a cs b : List Entry) → Begins y x b a → Begins x c a cs → Chain x c y a cs b
     → (m l k q : ℕ) (r h f : Entry) → (asks : Entry → Type 0) → slice_get a m ≡ Some r → is_of y r ≡ true
     → ((i : ℕ) (g : Entry) → slice_get a i ≡ Some g → is_of x g ≡ true → asks g → m < i)

@@ -3,30 +3,30 @@ use Rattle.std.proofs.Common.{◌≡◌, ℕ, Bool, true, false, List, [], ◌�
 use Rattle.std.specs.Prelude.{Option, Some, None, if◌then◌else◌, ◌&&◌}
 use Rattle.std.specs.Str.{bytes_eq}
 use Rattle.std.proofs.lemmas.Bool.{false≢true}
-use Rattle.world_laws.proofs.Types.{Entry, Fate, Frame, Packet, Place, Position, SenderState}
+use Rattle.world_laws.proofs.Types.{Entry, Fate, Frame, Packet, ClusterRef, Position, ReplicatorState}
 use Rattle.world_laws.proofs.Types.fate
 use Rattle.world_laws.proofs.Types.frame
 use Rattle.world_laws.proofs.Types.peer
-use Rattle.world_laws.proofs.Types.sender_state
+use Rattle.world_laws.proofs.Types.replicator_state
 use Rattle.world_laws.proofs.Types.write
-use Rattle.geo_base.specs.Broker.{Broker, Site, receiver_at, sender_at}
+use Rattle.geo_base.specs.Broker.{Broker, Site, receiver_at, replicator_at}
 use Rattle.geo_base.specs.Entry.{with_origin}
 use Rattle.geo_base.specs.Forwarding.{closes, opens, receipt_command, receipt_fate, receipt_packet, receives, take_command, take_fate, take_frame, take_in}
 use Rattle.geo_base.specs.Link.{sends}
 use Rattle.geo_base.specs.Plan.{Plan, done, plan_of, quiet_plan, twice}
-use Rattle.geo_base.specs.Position.{nowhere}
+use Rattle.geo_base.specs.Position.{no_position}
 use Rattle.geo_base.specs.Receiver.{is_open}
-use Rattle.geo_base.specs.Sender.{pending_index}
+use Rattle.geo_base.specs.Replicator.{pending_index}
 use Rattle.geo_base.specs.Topic.{accepts, next_position}
 use Rattle.world_laws.proofs.Walks.Shapes.{Answered, Fated, InLink, Taken, is_answer, is_opening, may_store}
 use Rattle.world_laws.proofs.Walks.Walk.{on_test}
 
 -- take
-stored_taken : (h : Site) (b : Broker) (x : ℕ) (p : Packet) (id seq : ℕ) (source : Option Place) (e : Entry) (a : Bool)
+stored_taken : (h : Site) (b : Broker) (x : ℕ) (p : Packet) (id seq : ℕ) (source : Option ClusterRef) (e : Entry) (a : Bool)
     → p.frame ≡ frame.Send id seq source e → is_open (receiver_at b x) p.session ≡ true → may_store h x p.frame ≡ true
     → accepts b.entries (with_origin x e).ident ≡ a
     → Taken h b x p (plan_of (if a then write.Append (with_origin x e) ∷ [] else []) []
-    (sends (peer.Back x) p.session (frame.SendReceipt p.session seq (Some (if a then next_position h.per_ledger b.ledgers else nowhere)))))
+    (sends (peer.Back x) p.session (frame.SendReceipt p.session seq (Some (if a then next_position h.per_ledger b.ledgers else no_position)))))
 stored_taken h b x p id seq source e true is at may new = Taken.Stores id seq source e is at may new
 stored_taken h b x p id seq source e false is at may old = Taken.Repeats id seq source e is at may old
 
@@ -73,25 +73,25 @@ fate_taken h b x p fate.Twice =
     (taken_acts h b x p _ (frame_taken h b x p p.frame refl))
 
 -- receipt
-opened_answered : (b : Broker) (y : ℕ) (p : Packet) (request : ℕ) (name : List ℕ) (state : SenderState) → InLink b y p
-    → p.frame ≡ frame.ProducerSuccess request name → (sender_at b y).state ≡ state → Answered b y p (opens y state)
-opened_answered b y p request name sender_state.Opening at is state = Answered.Opened request name at is state
-opened_answered b y p request name sender_state.Open at is state = Answered.OpenBefore request name at is state
-opened_answered b y p request name sender_state.Closed at is state = Answered.ClosedBefore request name at is state
+opened_answered : (b : Broker) (y : ℕ) (p : Packet) (request : ℕ) (name : List ℕ) (state : ReplicatorState) → InLink b y p
+    → p.frame ≡ frame.ProducerSuccess request name → (replicator_at b y).state ≡ state → Answered b y p (opens y state)
+opened_answered b y p request name replicator_state.Opening at is state = Answered.Opened request name at is state
+opened_answered b y p request name replicator_state.Open at is state = Answered.OpenBefore request name at is state
+opened_answered b y p request name replicator_state.Closed at is state = Answered.ClosedBefore request name at is state
 
 received_answered : (b : Broker) (y : ℕ) (p : Packet) (id n : ℕ) (position : Option Position) (o : Option ℕ) → InLink b y p
-    → p.frame ≡ frame.SendReceipt id n position → pending_index (sender_at b y).pending n ≡ o → Answered b y p (receives y n o)
+    → p.frame ≡ frame.SendReceipt id n position → pending_index (replicator_at b y).pending n ≡ o → Answered b y p (receives y n o)
 received_answered b y p id n position None at is pending = Answered.ReceivedBefore id n position at is pending
 received_answered b y p id n position (Some i) at is pending = Answered.Received id n i position at is pending
 
-command_answered : (b : Broker) (y : ℕ) (p : Packet) (f : Frame) → InLink b y p → p.frame ≡ f → Answered b y p (receipt_command y (sender_at b y) f)
-command_answered b y p (frame.ProducerSuccess request name) at is = opened_answered b y p request name (sender_at b y).state at is refl
-command_answered b y p (frame.SendReceipt id n position) at is = received_answered b y p id n position (pending_index (sender_at b y).pending n) at is refl
+command_answered : (b : Broker) (y : ℕ) (p : Packet) (f : Frame) → InLink b y p → p.frame ≡ f → Answered b y p (receipt_command y (replicator_at b y) f)
+command_answered b y p (frame.ProducerSuccess request name) at is = opened_answered b y p request name (replicator_at b y).state at is refl
+command_answered b y p (frame.SendReceipt id n position) at is = received_answered b y p id n position (pending_index (replicator_at b y).pending n) at is refl
 command_answered b y p f at is = Answered.Other at (ap is_answer is)
 
 pub packet_answered : (b : Broker) (y : ℕ) (p : Packet) → Answered b y p (receipt_packet b y p)
 packet_answered b y p =
-    on_test (Answered b y p) (p.session == (sender_at b y).session) _ _ (λ at. command_answered b y p p.frame at refl) (λ other. Answered.Stale other)
+    on_test (Answered b y p) (p.session == (replicator_at b y).session) _ _ (λ at. command_answered b y p p.frame at refl) (λ other. Answered.Stale other)
 
 pub answered_acts : (b : Broker) (y : ℕ) (p : Packet) (q : Plan) → Answered b y p q → q.idle ≡ false
 answered_acts b y p q (Answered.Stale other) = refl

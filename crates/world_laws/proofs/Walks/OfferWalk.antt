@@ -2,7 +2,7 @@
 use Rattle.std.proofs.Common.{◌≡◌, ℕ, Bool, true, false, List, [], ◌∷◌, length, refl, ap, ◌==◌}
 use Rattle.std.specs.Prelude.{Option, Some, None, if◌then◌else◌, ◌&&◌, is_none, option_map, slice_get}
 use Rattle.std.specs.List.{list_any}
-use Rattle.world_laws.proofs.Types.{Builder, CachedSnapshot, ClusterPosition, Content, Entry, Position}
+use Rattle.world_laws.proofs.Types.{SnapshotBuilder, CachedSnapshot, ClusterPosition, Content, Entry, Position}
 use Rattle.world_laws.proofs.Types.change
 use Rattle.world_laws.proofs.Types.content
 use Rattle.world_laws.proofs.Types.marker
@@ -11,7 +11,7 @@ use Rattle.geo_base.specs.Cache.{cached, cut_of}
 use Rattle.geo_base.specs.Dispatcher.{consumer_at, least_due, pick}
 use Rattle.geo_base.specs.Entry.{is_data, key_bytes}
 use Rattle.geo_base.specs.Markers.{snap}
-use Rattle.geo_base.specs.Offering.{message, offer, offer_entry, own_snapshot, passes_by}
+use Rattle.geo_base.specs.Offering.{message, offer, offer_entry, own_snapshot, skips_marker}
 use Rattle.geo_base.specs.Plan.{Plan, idle_plan, plan_of}
 use Rattle.geo_base.specs.Seeking.{seek, seek_index}
 use Rattle.geo_base.specs.Subscription.{Subscription, sought, with_acks}
@@ -21,7 +21,7 @@ use Rattle.world_laws.proofs.Walks.ServeWalk.{updates_after}
 use Rattle.world_laws.proofs.Walks.Walk.{on_found, on_test}
 
 -- snap
-both_snap : (h : Site) (b : Broker) (p : Plan) (a : Bool) (o : Option Builder) → list_any (λ (v : Subscription). v.replicated) b.subs ≡ a → b.builder ≡ o
+both_snap : (h : Site) (b : Broker) (p : Plan) (a : Bool) (o : Option SnapshotBuilder) → list_any (λ (v : Subscription). v.replicated) b.subs ≡ a → b.builder ≡ o
     → (a ≡ true → o ≡ None → Snaps h b p) → Snaps h b (if a && is_none o then p else idle_plan)
 both_snap h b p true None any none f = f refl refl
 both_snap h b p true (Some u) any none f = Snaps.NothingToAsk
@@ -33,23 +33,23 @@ snap_shape h b = both_snap h b _ (list_any (λ (v : Subscription). v.replicated)
 
 -- offer
 marker_offered : (h : Site) (b : Broker) (n : List ℕ) (v : Subscription) (i : ℕ) (e : Entry) → IsLeastDue b n v i e → is_data e.content ≡ false
-    → Offers h b n (passes_by h b v i None)
-marker_offered h b n v i e due is = Offers.PassesBy v i e _ due is (updates_after h b (with_acks (i ∷ []) v))
+    → Offers h b n (skips_marker h b v i None)
+marker_offered h b n v i e due is = Offers.SkipsMarker v i e _ due is (updates_after h b (with_acks (i ∷ []) v))
 
 snapshot_offered : (h : Site) (b : Broker) (n : List ℕ) (v : Subscription) (i : ℕ) (e : Entry) (id : List ℕ) (local : Position) (remote : List ClusterPosition) (o : Option ℕ)
     → IsLeastDue b n v i e → e.content ≡ content.Marked (marker.Snapshot id local remote) → ((e.ident.origin == h.own) && v.replicated) ≡ true
     → index_of b.ledgers local ≡ o
-    → Offers h b n (passes_by h b v i (option_map (λ j. record { index = j; cut = cut_of h.own (length h.clusters) local remote }) o))
+    → Offers h b n (skips_marker h b v i (option_map (λ j. record { index = j; cut = cut_of h.own (length h.clusters) local remote }) o))
 snapshot_offered h b n v i e id local remote None due is own at = marker_offered h b n v i e due (ap is_data is)
 snapshot_offered h b n v i e id local remote (Some j) due is own at =
     let c : CachedSnapshot = record { index = j; cut = cut_of h.own (length h.clusters) local remote } in
     Offers.Caches v i j e c _ due (id, local, remote, is, own, at, refl) (updates_after h b (with_acks (i ∷ []) (record v { cache = cached v.cache c })))
 
 passed_offered : (h : Site) (b : Broker) (n : List ℕ) (v : Subscription) (i : ℕ) (e : Entry) (c : Content) → IsLeastDue b n v i e → e.content ≡ c → is_data c ≡ false
-    → Offers h b n (passes_by h b v i (own_snapshot h b v e.ident.origin c))
+    → Offers h b n (skips_marker h b v i (own_snapshot h b v e.ident.origin c))
 passed_offered h b n v i e content.Data due is other = absurd (cc)
 passed_offered h b n v i e (content.Marked (marker.Snapshot id local remote)) due is other =
-    on_test (λ (o : Option CachedSnapshot). Offers h b n (passes_by h b v i o)) ((e.ident.origin == h.own) && v.replicated) _ None
+    on_test (λ (o : Option CachedSnapshot). Offers h b n (skips_marker h b v i o)) ((e.ident.origin == h.own) && v.replicated) _ None
     (λ own. snapshot_offered h b n v i e id local remote (index_of b.ledgers local) due is own refl) (λ _. marker_offered h b n v i e due (ap is_data is))
 passed_offered h b n v i e (content.Marked (marker.Request id source)) due is other = marker_offered h b n v i e due (ap is_data is)
 passed_offered h b n v i e (content.Marked (marker.Response id answer)) due is other = marker_offered h b n v i e due (ap is_data is)

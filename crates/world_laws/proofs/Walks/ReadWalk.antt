@@ -1,49 +1,49 @@
--- The walk through read: what a sender does with the next entry that its cursor lacks.
+-- The walk through read: what a replicator does with the next entry that its cursor lacks.
 use Rattle.std.proofs.Common.{◌≡◌, ℕ, ◌+◌, true, List, [], ◌∷◌, length, refl, ◌==◌}
 use Rattle.std.specs.Prelude.{Option, Some, None, ◌&&◌, slice_get}
-use Rattle.world_laws.proofs.Types.{Builder, ClusterPosition, Content, Entry, Marker, Progress}
+use Rattle.world_laws.proofs.Types.{SnapshotBuilder, ClusterPosition, Content, Entry, Marker, Progress}
 use Rattle.world_laws.proofs.Types.change
 use Rattle.world_laws.proofs.Types.content
 use Rattle.world_laws.proofs.Types.marker
 use Rattle.world_laws.proofs.Types.progress
-use Rattle.geo_base.specs.Broker.{Broker, Site, sender_at, sub_named}
-use Rattle.geo_base.specs.Builder.{Heard, on_response}
-use Rattle.geo_base.specs.Entry.{is_outbound, is_place}
+use Rattle.geo_base.specs.Broker.{Broker, Site, replicator_at, sub_named}
+use Rattle.geo_base.specs.SnapshotBuilder.{Heard, on_response}
+use Rattle.geo_base.specs.Entry.{is_outbound, means_cluster}
 use Rattle.geo_base.specs.Forwarding.{is_remote}
 use Rattle.geo_base.specs.Markers.{after_response, heard_from, read_content, read_marker, read_response}
 use Rattle.geo_base.specs.Name.{is_name}
 use Rattle.geo_base.specs.Reading.{read, read_at, read_entry}
-use Rattle.geo_base.specs.Sender.{index_to_read}
+use Rattle.geo_base.specs.Replicator.{index_to_read}
 use Rattle.geo_base.specs.Subscribing.{has_room}
 use Rattle.geo_base.specs.Subscription.{Subscription, with_acks}
 use Rattle.geo_base.specs.Topic.{position_at}
-use Rattle.geo_base.specs.Updating.{handled, only_index, passed_over, passing, positions_for, read_update}
+use Rattle.geo_base.specs.Updating.{handled, only_index, updated_indexes, update_writes, positions_for, read_update}
 use Rattle.world_laws.proofs.Walks.Shapes.{Hears, IsMarkerOf, IsResponse, IsUpdate, Reads, ReadsNext}
 use Rattle.world_laws.proofs.Walks.ServeWalk.{updates_after}
 use Rattle.world_laws.proofs.Walks.Walk.{on_found, on_test}
 
-after_read : (h : Site) (b : Broker) (y i : ℕ) (e : Entry) (id : List ℕ) (answer : ClusterPosition) (u : Builder) (g : Progress) (u' : Builder)
+after_read : (h : Site) (b : Broker) (y i : ℕ) (e : Entry) (id : List ℕ) (answer : ClusterPosition) (u : SnapshotBuilder) (g : Progress) (u' : SnapshotBuilder)
     → ReadsNext h b y i e → IsResponse h b y e id answer u → Hears b y i id answer u g u' → Reads h b y (after_response h b y i g u')
 after_read h b y i e id answer u progress.Ignored u' next is heard = Reads.Skips i e next is.0.0
 after_read h b y i e id answer u progress.Kept u' next is heard = Reads.Counts i e id answer u u' next is heard
 after_read h b y i e id answer u progress.SecondRound u' next is heard = Reads.AsksAgain i e id answer u u' next is heard
 after_read h b y i e id answer u progress.Done u' next is heard = Reads.Completes i e id answer u u' next is heard
 
-response_read : (h : Site) (b : Broker) (y i : ℕ) (e : Entry) (id : List ℕ) (answer : ClusterPosition) (o : Option Builder)
+response_read : (h : Site) (b : Broker) (y i : ℕ) (e : Entry) (id : List ℕ) (answer : ClusterPosition) (o : Option SnapshotBuilder)
     → ReadsNext h b y i e → IsMarkerOf h y e → e.content ≡ content.Marked (marker.Response id answer) → b.builder ≡ o
     → Reads h b y (read_response h b y i id answer o)
 response_read h b y i e id answer None next of is built = Reads.Skips i e next of.0
 response_read h b y i e id answer (Some u) next of is built =
     let heard : Heard = on_response u id y answer.position (position_at b.ledgers i) in
-    on_test (Reads h b y) (is_place y answer.cluster) (heard_from h b y i heard) _
+    on_test (Reads h b y) (means_cluster y answer.cluster) (heard_from h b y i heard) _
     (λ named. after_read h b y i e id answer u heard.progress heard.builder next (of, is, built, named) refl) (λ _. Reads.Skips i e next of.0)
 
 sub_read : (h : Site) (b : Broker) (y i j : ℕ) (e : Entry) (n : List ℕ) (remote : List ClusterPosition) (o : Option Subscription)
     → ReadsNext h b y i e → IsUpdate h b y e n remote j → sub_named b.subs n ≡ o
-    → Reads h b y (handled y i (passing h b n (passed_over y 0 (j + 1) b.entries) o) (change.Acked n ∷ []))
+    → Reads h b y (handled y i (update_writes h b n (updated_indexes y 0 (j + 1) b.entries) o) (change.Acked n ∷ []))
 sub_read h b y i j e n remote None next is named = Reads.CreatesAt i j e n remote next is named
 sub_read h b y i j e n remote (Some v) next is named =
-    Reads.PassesOver i j e n remote v _ next is named (updates_after h b (with_acks (passed_over y 0 (j + 1) b.entries) v))
+    Reads.ActsOnUpdate i j e n remote v _ next is named (updates_after h b (with_acks (updated_indexes y 0 (j + 1) b.entries) v))
 
 update_read : (h : Site) (b : Broker) (y i : ℕ) (e : Entry) (n : List ℕ) (remote : List ClusterPosition)
     → ReadsNext h b y i e → IsMarkerOf h y e → e.content ≡ content.Marked (marker.Update n remote) → Reads h b y (read_update h b y i n remote)
@@ -66,7 +66,7 @@ content_read h b y i e content.Data next of is = Reads.Skips i e next of.0
 content_read h b y i e (content.Unread kind) next of is = Reads.Skips i e next of.0
 
 entry_read : (h : Site) (b : Broker) (y i : ℕ) (o : Option Entry) → is_remote h y ≡ true
-    → index_to_read (sender_at b y).state (sender_at b y) (length b.entries) ≡ Some i → slice_get b.entries i ≡ o
+    → index_to_read (replicator_at b y).state (replicator_at b y) (length b.entries) ≡ Some i → slice_get b.entries i ≡ o
     → Reads h b y (read_entry h b y i o)
 entry_read h b y i None remote at is = Reads.NothingToRead
 entry_read h b y i (Some e) remote at is =
@@ -75,12 +75,12 @@ entry_read h b y i (Some e) remote at is =
     (λ _. Reads.Skips i e (remote, at, is) other))
 
 index_read : (h : Site) (b : Broker) (y : ℕ) (o : Option ℕ) → is_remote h y ≡ true
-    → index_to_read (sender_at b y).state (sender_at b y) (length b.entries) ≡ o → Reads h b y (read_at h b y o)
+    → index_to_read (replicator_at b y).state (replicator_at b y) (length b.entries) ≡ o → Reads h b y (read_at h b y o)
 index_read h b y None remote at = Reads.NothingToRead
 index_read h b y (Some i) remote at = entry_read h b y i (slice_get b.entries i) remote at refl
 
 pub read_shape : (h : Site) (b : Broker) (y : ℕ) → Reads h b y (read h b y)
 unfolding read
 read_shape h b y =
-    on_test (Reads h b y) (is_remote h y) (read_at h b y (index_to_read (sender_at b y).state (sender_at b y) (length b.entries))) _
-    (λ remote. index_read h b y (index_to_read (sender_at b y).state (sender_at b y) (length b.entries)) remote refl) (λ _. Reads.NothingToRead)
+    on_test (Reads h b y) (is_remote h y) (read_at h b y (index_to_read (replicator_at b y).state (replicator_at b y) (length b.entries))) _
+    (λ remote. index_read h b y (index_to_read (replicator_at b y).state (replicator_at b y) (length b.entries)) remote refl) (λ _. Reads.NothingToRead)

@@ -3,7 +3,7 @@ use Rattle.std.proofs.Common.{◌≡◌, ℕ, Bool, true, false, List, [], ◌�
 use Rattle.std.specs.Prelude.{Option, Some, None, if◌then◌else◌, ◌&&◌, ◌||◌, not, nat_le, nat_lt, length, is_some, take, codes}
 use Rattle.std.specs.List.{list_any}
 use Rattle.std.specs.Str.{bytes_eq}
-use Rattle.world_laws.proofs.Types.{AckKind, Cut, Entry, Frame, Packet, Place, Position, Session, SubKind, Write}
+use Rattle.world_laws.proofs.Types.{AckKind, Cut, Entry, Frame, Packet, ClusterRef, Position, Session, SubKind, Write}
 use Rattle.world_laws.proofs.Types.frame
 use Rattle.world_laws.proofs.Types.write
 use Rattle.geo_base.specs.Acknowledging.{acked_indexes, acks, serve_ack}
@@ -14,7 +14,7 @@ use Rattle.geo_base.specs.Cursor.{mark}
 use Rattle.geo_base.specs.Entry.{with_origin}
 use Rattle.geo_base.specs.Name.{is_name}
 use Rattle.geo_base.specs.Plan.{plan_of, quiet_plan, unless_found}
-use Rattle.geo_base.specs.Position.{nowhere}
+use Rattle.geo_base.specs.Position.{no_position}
 use Rattle.geo_base.specs.Producing.{is_sound, is_taken, may_attach, most_producer_name, name_with, serve_close_producer, serve_producer, serve_send, stores}
 use Rattle.geo_base.specs.Serving.{serve_command, serve_frame}
 use Rattle.geo_base.specs.Storing.{appending_update, update_after}
@@ -48,14 +48,14 @@ producer_served h b c p s topic id request (Some n) at =
     (Served.ChangesProducers s _ (frame.ProducerSuccess request n)
     (at, left (nat_le (length n) most_producer_name) (not (bytes_eq (take 7 n) (codes "pulsar."))) (right (bytes_eq topic h.topic) (may_attach n) (not_false _ may)))))
 
-stored_served : (h : Site) (b : Broker) (c : ℕ) (p : Packet) (s : Session) (id seq : ℕ) (source : Option Place) (e : Entry) (a : Bool)
+stored_served : (h : Site) (b : Broker) (c : ℕ) (p : Packet) (s : Session) (id seq : ℕ) (source : Option ClusterRef) (e : Entry) (a : Bool)
     → InSession b c p s → IsSound h s p id seq source e → accepts b.entries (with_origin h.own e).ident ≡ a
     → Served h b c p (plan_of (if a then write.Append (with_origin h.own e) ∷ [] else []) []
-    (answer c s (frame.SendReceipt id seq (Some (if a then next_position h.per_ledger b.ledgers else nowhere)))))
+    (answer c s (frame.SendReceipt id seq (Some (if a then next_position h.per_ledger b.ledgers else no_position)))))
 stored_served h b c p s id seq source e true at sound is = Served.Stores s id seq source e at sound is
 stored_served h b c p s id seq source e false at sound is = Served.Repeats s id seq source e at sound is
 
-send_served : (h : Site) (b : Broker) (c : ℕ) (p : Packet) (s : Session) (id seq : ℕ) (source : Option Place) (e : Entry) (n : Option (List ℕ))
+send_served : (h : Site) (b : Broker) (c : ℕ) (p : Packet) (s : Session) (id seq : ℕ) (source : Option ClusterRef) (e : Entry) (n : Option (List ℕ))
     → InSession b c p s → p.frame ≡ frame.Send id seq source e → name_with id s.producers ≡ n
     → Served h b c p (serve_send h b c s id seq source e n)
 send_served h b c p s id seq source e None at is named = Served.Answers s _ (at, tt)

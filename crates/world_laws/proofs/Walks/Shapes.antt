@@ -3,24 +3,24 @@
 use Rattle.std.specs.Prelude.{◌≡◌, ℕ, ◌+◌, nat_lt, nat_le, ◌==◌, Bool, true, false, not, ◌&&◌, ◌||◌, List, [], ◌∷◌, ◌++◌, length, Option, Some, None, slice_get}
 use Rattle.std.specs.List.{list_any}
 use Rattle.std.specs.Str.{bytes_eq}
-use Rattle.world_laws.proofs.Types.{AckKind, AttachedProducer, Builder, CachedSnapshot, ClusterPosition, Cut, Entry, Frame, Packet, Place, Position, Progress, Session, SubKind, Write}
+use Rattle.world_laws.proofs.Types.{AckKind, AttachedProducer, SnapshotBuilder, CachedSnapshot, ClusterPosition, Cut, Entry, Frame, Packet, ClusterRef, Position, Progress, Session, SubKind, Write}
 use Rattle.world_laws.proofs.Types.change
 use Rattle.world_laws.proofs.Types.content
 use Rattle.world_laws.proofs.Types.frame
 use Rattle.world_laws.proofs.Types.marker
 use Rattle.world_laws.proofs.Types.peer
 use Rattle.world_laws.proofs.Types.progress
-use Rattle.world_laws.proofs.Types.sender_state
+use Rattle.world_laws.proofs.Types.replicator_state
 use Rattle.world_laws.proofs.Types.sub_kind
 use Rattle.world_laws.proofs.Types.write
 use Rattle.geo_base.specs.Acknowledging.{acked_indexes}
 use Rattle.geo_base.specs.Answers.{answer, answers, succeeds}
-use Rattle.geo_base.specs.Broker.{Broker, Site, cluster_name, receiver_at, sender_at, session_at, sub_named}
-use Rattle.geo_base.specs.Builder.{current_id, on_response, snapshot_id}
+use Rattle.geo_base.specs.Broker.{Broker, Site, cluster_name, receiver_at, replicator_at, session_at, sub_named}
+use Rattle.geo_base.specs.SnapshotBuilder.{current_id, on_response, snapshot_id}
 use Rattle.geo_base.specs.Cache.{cached, cut_of, last_passed}
 use Rattle.geo_base.specs.Cursor.{mark}
 use Rattle.geo_base.specs.Dispatcher.{consumer_at, least_due, pick}
-use Rattle.geo_base.specs.Entry.{is_data, is_outbound, is_place, key_bytes, with_origin}
+use Rattle.geo_base.specs.Entry.{is_data, is_outbound, means_cluster, key_bytes, with_origin}
 use Rattle.geo_base.specs.Forwarding.{closes, is_remote, link_producer, resets}
 use Rattle.geo_base.specs.Link.{next_packet, sends}
 use Rattle.geo_base.specs.Markers.{asks, request_marker, response_marker, snapshot_marker}
@@ -28,12 +28,12 @@ use Rattle.geo_base.specs.Name.{is_name}
 use Rattle.geo_base.specs.Offering.{message}
 use Rattle.geo_base.specs.Plan.{Plan, done, idle_plan, plan_of, quiet_plan}
 use Rattle.geo_base.specs.Planned.{Planned, has_node, has_pair}
-use Rattle.geo_base.specs.Position.{nowhere}
+use Rattle.geo_base.specs.Position.{no_position}
 use Rattle.geo_base.specs.Producing.{is_sound, most_producer_name, name_with, with_producers}
 use Rattle.geo_base.specs.Reading.{forwards}
 use Rattle.geo_base.specs.Receiver.{is_from, is_open}
 use Rattle.geo_base.specs.Seeking.{restart, seek_index}
-use Rattle.geo_base.specs.Sender.{index_to_read, pending_index}
+use Rattle.geo_base.specs.Replicator.{index_to_read, pending_index}
 use Rattle.geo_base.specs.Serving.{session_becomes}
 use Rattle.geo_base.specs.Setup.{Setup, declared_at, sub_name}
 use Rattle.geo_base.specs.Sizes.{entry_size, most_entry_size}
@@ -41,7 +41,7 @@ use Rattle.geo_base.specs.Storing.{update_marker}
 use Rattle.geo_base.specs.Subscribing.{consumed_by, has_room, is_busy, joins, same_kind}
 use Rattle.geo_base.specs.Subscription.{Subscription, is_attached, sought, with_acks}
 use Rattle.geo_base.specs.Topic.{accepts, index_of, next_position, position_at}
-use Rattle.geo_base.specs.Updating.{handled, only_index, passed_over, positions_for}
+use Rattle.geo_base.specs.Updating.{handled, only_index, updated_indexes, positions_for}
 use Rattle.geo_base.specs.World.{Back, Forward, LinkName, ToBroker, World, link_at, node, site, topic_at}
 
 -- what follows a write of a subscription's cursor, v being the subscription with that write done: nothing, or an update
@@ -61,7 +61,7 @@ abbrev pub MayJoin : Site → Broker → ℕ → List ℕ → List ℕ → Type 
 MayJoin h b c topic n = ((bytes_eq topic h.topic && is_name n && has_room b n) ≡ true) × (list_any (is_attached c) b.subs ≡ false)
 
 -- a message that its producer may publish
-abbrev pub IsSound : Site → Session → Packet → ℕ → ℕ → Option Place → Entry → Type 0
+abbrev pub IsSound : Site → Session → Packet → ℕ → ℕ → Option ClusterRef → Entry → Type 0
 IsSound h s p id seq source e =
     (p.frame ≡ frame.Send id seq source e) × ((n : List ℕ) × (name_with id s.producers ≡ Some n) × (is_sound h n seq source e ≡ true))
 
@@ -82,12 +82,12 @@ pub data Served (h : Site) (b : Broker) (c : ℕ) (p : Packet) : Plan → Type 0
   Answers : (s : Session) (f : Frame) → InSession b c p s × IsReply f → Served h b c p (answers c s f)
   ChangesProducers : (s : Session) (ps : List AttachedProducer) (f : Frame) → InSession b c p s × IsReply f
       → Served h b c p (plan_of [] (with_producers c s ps ∷ []) (answer c s f))
-  Stores : (s : Session) (id seq : ℕ) (source : Option Place) (e : Entry) → InSession b c p s → IsSound h s p id seq source e
+  Stores : (s : Session) (id seq : ℕ) (source : Option ClusterRef) (e : Entry) → InSession b c p s → IsSound h s p id seq source e
       → accepts b.entries (with_origin h.own e).ident ≡ true
       → Served h b c p (plan_of (write.Append (with_origin h.own e) ∷ []) [] (answer c s (frame.SendReceipt id seq (Some (next_position h.per_ledger b.ledgers)))))
-  Repeats : (s : Session) (id seq : ℕ) (source : Option Place) (e : Entry) → InSession b c p s → IsSound h s p id seq source e
+  Repeats : (s : Session) (id seq : ℕ) (source : Option ClusterRef) (e : Entry) → InSession b c p s → IsSound h s p id seq source e
       → accepts b.entries (with_origin h.own e).ident ≡ false
-      → Served h b c p (plan_of [] [] (answer c s (frame.SendReceipt id seq (Some nowhere))))
+      → Served h b c p (plan_of [] [] (answer c s (frame.SendReceipt id seq (Some no_position))))
   Creates : (s : Session) (topic n : List ℕ) (kind : SubKind) (id request : ℕ) (consumer : Option (List ℕ)) (earliest replicated : Bool)
       → InSession b c p s → p.frame ≡ frame.Subscribe topic n kind id request consumer earliest replicated → MayJoin h b c topic n
       → sub_named b.subs n ≡ None
@@ -133,18 +133,18 @@ pub data Taken (h : Site) (b : Broker) (x : ℕ) (p : Packet) : Plan → Type 0 
       → Taken h b x p (plan_of [] (change.Receiver x (Some id) ∷ []) (sends (peer.Back x) id (frame.ProducerSuccess request (link_producer h x))))
   Discards : is_opening h p p.frame ≡ false → is_open (receiver_at b x) p.session ≡ false → Taken h b x p (quiet_plan [])
   Refuses : is_opening h p p.frame ≡ false → is_open (receiver_at b x) p.session ≡ true → may_store h x p.frame ≡ false → Taken h b x p (closes x)
-  Stores : (id seq : ℕ) (source : Option Place) (e : Entry) → p.frame ≡ frame.Send id seq source e
+  Stores : (id seq : ℕ) (source : Option ClusterRef) (e : Entry) → p.frame ≡ frame.Send id seq source e
       → is_open (receiver_at b x) p.session ≡ true → may_store h x p.frame ≡ true → accepts b.entries (with_origin x e).ident ≡ true
       → Taken h b x p (plan_of (write.Append (with_origin x e) ∷ []) [] (sends (peer.Back x) p.session (frame.SendReceipt p.session seq (Some (next_position h.per_ledger b.ledgers)))))
-  Repeats : (id seq : ℕ) (source : Option Place) (e : Entry) → p.frame ≡ frame.Send id seq source e
+  Repeats : (id seq : ℕ) (source : Option ClusterRef) (e : Entry) → p.frame ≡ frame.Send id seq source e
       → is_open (receiver_at b x) p.session ≡ true → may_store h x p.frame ≡ true → accepts b.entries (with_origin x e).ident ≡ false
-      → Taken h b x p (plan_of [] [] (sends (peer.Back x) p.session (frame.SendReceipt p.session seq (Some nowhere))))
+      → Taken h b x p (plan_of [] [] (sends (peer.Back x) p.session (frame.SendReceipt p.session seq (Some no_position))))
 
 -- receipt: one packet, acted on once
 
--- a packet answers the session of the sender to y
+-- a packet answers the session of the replicator to y
 abbrev pub InLink : Broker → ℕ → Packet → Type 0
-InLink b y p = (p.session == (sender_at b y).session) ≡ true
+InLink b y p = (p.session == (replicator_at b y).session) ≡ true
 
 abbrev pub is_answer : Frame → Bool
 is_answer (frame.ProducerSuccess request name) = true
@@ -152,19 +152,19 @@ is_answer (frame.SendReceipt id n position) = true
 is_answer f = false
 
 pub data Answered (b : Broker) (y : ℕ) (p : Packet) : Plan → Type 0 where
-  Stale : (p.session == (sender_at b y).session) ≡ false → Answered b y p (quiet_plan [])
+  Stale : (p.session == (replicator_at b y).session) ≡ false → Answered b y p (quiet_plan [])
   Other : InLink b y p → is_answer p.frame ≡ false → Answered b y p (quiet_plan [])
   Opened : (request : ℕ) (name : List ℕ) → InLink b y p → p.frame ≡ frame.ProducerSuccess request name
-      → (sender_at b y).state ≡ sender_state.Opening → Answered b y p (quiet_plan (change.Opened y ∷ []))
+      → (replicator_at b y).state ≡ replicator_state.Opening → Answered b y p (quiet_plan (change.Opened y ∷ []))
   OpenBefore : (request : ℕ) (name : List ℕ) → InLink b y p → p.frame ≡ frame.ProducerSuccess request name
-      → (sender_at b y).state ≡ sender_state.Open → Answered b y p (quiet_plan [])
+      → (replicator_at b y).state ≡ replicator_state.Open → Answered b y p (quiet_plan [])
   ClosedBefore : (request : ℕ) (name : List ℕ) → InLink b y p → p.frame ≡ frame.ProducerSuccess request name
-      → (sender_at b y).state ≡ sender_state.Closed → Answered b y p (quiet_plan [])
+      → (replicator_at b y).state ≡ replicator_state.Closed → Answered b y p (quiet_plan [])
   Received : (id n i : ℕ) (position : Option Position) → InLink b y p → p.frame ≡ frame.SendReceipt id n position
-      → pending_index (sender_at b y).pending n ≡ Some i
-      → Answered b y p (plan_of (write.SenderAck y i ∷ []) (change.Unpend y n ∷ []) [])
+      → pending_index (replicator_at b y).pending n ≡ Some i
+      → Answered b y p (plan_of (write.ReplicatorAck y i ∷ []) (change.Unpend y n ∷ []) [])
   ReceivedBefore : (id n : ℕ) (position : Option Position) → InLink b y p → p.frame ≡ frame.SendReceipt id n position
-      → pending_index (sender_at b y).pending n ≡ None → Answered b y p (quiet_plan [])
+      → pending_index (replicator_at b y).pending n ≡ None → Answered b y p (quiet_plan [])
 
 -- two plans in a row, as one
 abbrev pub in_a_row : Plan → Plan → Plan
@@ -178,22 +178,22 @@ pub data Fated (per : ℕ) (b : Broker) (Acts : Broker → Plan → Type 0) (los
 
 -- read
 
--- the sender to y looks at the entry e at index i
+-- the replicator to y looks at the entry e at index i
 abbrev pub ReadsNext : Site → Broker → ℕ → ℕ → Entry → Type 0
 ReadsNext h b y i e =
-    (is_remote h y ≡ true) × (index_to_read (sender_at b y).state (sender_at b y) (length b.entries) ≡ Some i) × (slice_get b.entries i ≡ Some e)
+    (is_remote h y ≡ true) × (index_to_read (replicator_at b y).state (replicator_at b y) (length b.entries) ≡ Some i) × (slice_get b.entries i ≡ Some e)
 
 -- it is a marker of y
 abbrev pub IsMarkerOf : Site → ℕ → Entry → Type 0
 IsMarkerOf h y e = (is_outbound h.own y e ≡ false) × ((e.ident.origin == y) ≡ true)
 
 -- it is a response of y to the snapshot that is being made
-abbrev pub IsResponse : Site → Broker → ℕ → Entry → List ℕ → ClusterPosition → Builder → Type 0
+abbrev pub IsResponse : Site → Broker → ℕ → Entry → List ℕ → ClusterPosition → SnapshotBuilder → Type 0
 IsResponse h b y e id answer u =
-    IsMarkerOf h y e × (e.content ≡ content.Marked (marker.Response id answer)) × (b.builder ≡ Some u) × (is_place y answer.cluster ≡ true)
+    IsMarkerOf h y e × (e.content ≡ content.Marked (marker.Response id answer)) × (b.builder ≡ Some u) × (means_cluster y answer.cluster ≡ true)
 
 -- what a response at index i makes of a builder
-abbrev pub Hears : Broker → ℕ → ℕ → List ℕ → ClusterPosition → Builder → Progress → Builder → Type 0
+abbrev pub Hears : Broker → ℕ → ℕ → List ℕ → ClusterPosition → SnapshotBuilder → Progress → SnapshotBuilder → Type 0
 Hears b y i id answer u g u' = on_response u id y answer.position (position_at b.ledgers i) ≡ record { progress = g; builder = u' }
 
 -- it is an update of y whose position is that of index j here
@@ -204,25 +204,25 @@ IsUpdate h b y e n remote j =
 
 pub data Reads (h : Site) (b : Broker) (y : ℕ) : Plan → Type 0 where
   NothingToRead : Reads h b y idle_plan
-  Forwards : (i : ℕ) (e : Entry) → ReadsNext h b y i e → is_outbound h.own y e ≡ true → Reads h b y (forwards h y (sender_at b y) i e)
+  Forwards : (i : ℕ) (e : Entry) → ReadsNext h b y i e → is_outbound h.own y e ≡ true → Reads h b y (forwards h y (replicator_at b y) i e)
   Skips : (i : ℕ) (e : Entry) → ReadsNext h b y i e → is_outbound h.own y e ≡ false → Reads h b y (handled y i [] [])
-  Responds : (i : ℕ) (e : Entry) (id : List ℕ) (source : Place) → ReadsNext h b y i e → IsMarkerOf h y e
+  Responds : (i : ℕ) (e : Entry) (id : List ℕ) (source : ClusterRef) → ReadsNext h b y i e → IsMarkerOf h y e
       → e.content ≡ content.Marked (marker.Request id source)
       → Reads h b y (handled y i (write.Append (response_marker h b y id) ∷ []) [])
-  Counts : (i : ℕ) (e : Entry) (id : List ℕ) (answer : ClusterPosition) (u u' : Builder) → ReadsNext h b y i e → IsResponse h b y e id answer u
+  Counts : (i : ℕ) (e : Entry) (id : List ℕ) (answer : ClusterPosition) (u u' : SnapshotBuilder) → ReadsNext h b y i e → IsResponse h b y e id answer u
       → Hears b y i id answer u progress.Kept u' → Reads h b y (handled y i [] (change.Building (Some u') ∷ []))
-  AsksAgain : (i : ℕ) (e : Entry) (id : List ℕ) (answer : ClusterPosition) (u u' : Builder) → ReadsNext h b y i e → IsResponse h b y e id answer u
+  AsksAgain : (i : ℕ) (e : Entry) (id : List ℕ) (answer : ClusterPosition) (u u' : SnapshotBuilder) → ReadsNext h b y i e → IsResponse h b y e id answer u
       → Hears b y i id answer u progress.SecondRound u'
       → Reads h b y (handled y i (write.Append (request_marker h b (current_id u')) ∷ []) (change.Building (Some u') ∷ []))
-  Completes : (i : ℕ) (e : Entry) (id : List ℕ) (answer : ClusterPosition) (u u' : Builder) → ReadsNext h b y i e → IsResponse h b y e id answer u
+  Completes : (i : ℕ) (e : Entry) (id : List ℕ) (answer : ClusterPosition) (u u' : SnapshotBuilder) → ReadsNext h b y i e → IsResponse h b y e id answer u
       → Hears b y i id answer u progress.Done u'
       → Reads h b y (handled y i (write.Append (snapshot_marker h b u') ∷ []) (change.Building None ∷ []))
   CreatesAt : (i j : ℕ) (e : Entry) (n : List ℕ) (remote : List ClusterPosition) → ReadsNext h b y i e → IsUpdate h b y e n remote j
       → sub_named b.subs n ≡ None
-      → Reads h b y (handled y i (write.Create n sub_kind.Exclusive true false ∷ write.Acks n (passed_over y 0 (j + 1) b.entries) ∷ []) (change.Acked n ∷ []))
-  PassesOver : (i j : ℕ) (e : Entry) (n : List ℕ) (remote : List ClusterPosition) (v : Subscription) (ws : List Write) → ReadsNext h b y i e
-      → IsUpdate h b y e n remote j → sub_named b.subs n ≡ Some v → Updates h b (with_acks (passed_over y 0 (j + 1) b.entries) v) ws
-      → Reads h b y (handled y i (write.Acks n (passed_over y 0 (j + 1) b.entries) ∷ ws) (change.Acked n ∷ []))
+      → Reads h b y (handled y i (write.Create n sub_kind.Exclusive true false ∷ write.Acks n (updated_indexes y 0 (j + 1) b.entries) ∷ []) (change.Acked n ∷ []))
+  ActsOnUpdate : (i j : ℕ) (e : Entry) (n : List ℕ) (remote : List ClusterPosition) (v : Subscription) (ws : List Write) → ReadsNext h b y i e
+      → IsUpdate h b y e n remote j → sub_named b.subs n ≡ Some v → Updates h b (with_acks (updated_indexes y 0 (j + 1) b.entries) v) ws
+      → Reads h b y (handled y i (write.Acks n (updated_indexes y 0 (j + 1) b.entries) ∷ ws) (change.Acked n ∷ []))
 
 -- snap
 pub data Snaps (h : Site) (b : Broker) : Plan → Type 0 where
@@ -247,12 +247,12 @@ pub data Offers (h : Site) (b : Broker) (n : List ℕ) : Plan → Type 0 where
   Gives : (v : Subscription) (i at : ℕ) (e : Entry) → IsLeastDue b n v i e → e.content ≡ content.Data
       → pick v.kind v.consumers (key_bytes e.meta.key) ≡ Some at
       → Offers h b n (plan_of [] (change.Given v.name i at ∷ []) (message h b i e (consumer_at v.consumers at)))
-  PassesBy : (v : Subscription) (i : ℕ) (e : Entry) (ws : List Write) → IsLeastDue b n v i e → is_data e.content ≡ false
+  SkipsMarker : (v : Subscription) (i : ℕ) (e : Entry) (ws : List Write) → IsLeastDue b n v i e → is_data e.content ≡ false
       → Updates h b (with_acks (i ∷ []) v) ws
-      → Offers h b n (plan_of (write.Acks v.name (i ∷ []) ∷ ws) (change.Passed v.name i ∷ change.Acked v.name ∷ []) [])
+      → Offers h b n (plan_of (write.Acks v.name (i ∷ []) ∷ ws) (change.Skipped v.name i ∷ change.Acked v.name ∷ []) [])
   Caches : (v : Subscription) (i j : ℕ) (e : Entry) (c : CachedSnapshot) (ws : List Write) → IsLeastDue b n v i e → IsSnapshot h b v e j c
       → Updates h b (with_acks (i ∷ []) (record v { cache = cached v.cache c })) ws
-      → Offers h b n (plan_of (write.Acks v.name (i ∷ []) ∷ ws) (change.Cache v.name c ∷ change.Passed v.name i ∷ change.Acked v.name ∷ []) [])
+      → Offers h b n (plan_of (write.Acks v.name (i ∷ []) ∷ ws) (change.Cache v.name c ∷ change.Skipped v.name i ∷ change.Acked v.name ∷ []) [])
 
 -- seek
 pub data Seeks (h : Site) (b : Broker) (n : List ℕ) (to : Option Position) : Plan → Type 0 where
@@ -272,7 +272,7 @@ pub data Shape (s : Setup) (w : World) : Planned → Type 0 where
   Drop : (x c : ℕ) (v : Session) → nat_lt x (length s.clusters) ≡ true → session_at (topic_at s w (declared_at s c).topic x) c ≡ Some v
       → Shape s w (record { topic = (declared_at s c).topic; cluster = x; takes = None; plan = quiet_plan (session_becomes c None) })
   Reset : (t x y : ℕ) → has_pair s t x y ≡ true → is_remote (site s t x) y ≡ true
-      → Shape s w (record { topic = t; cluster = x; takes = None; plan = resets (site s t x) y ((sender_at (topic_at s w t x) y).session + 1) })
+      → Shape s w (record { topic = t; cluster = x; takes = None; plan = resets (site s t x) y ((replicator_at (topic_at s w t x) y).session + 1) })
   Read : (t x y : ℕ) (plan : Plan) → has_pair s t x y ≡ true → Reads (site s t x) (topic_at s w t x) y plan
       → Shape s w (record { topic = t; cluster = x; takes = None; plan = plan })
   Take : (t x y : ℕ) (p : Packet) (plan : Plan) → has_pair s t x y ≡ true → next_packet (link_at w.links (Forward (node s t x) y)) ≡ Some p

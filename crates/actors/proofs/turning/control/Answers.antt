@@ -3,7 +3,7 @@ use Rattle.actors.specs.Turns.{Walks}
 use Rattle.actors.proofs.turning.control.Goals as goal
 
 pub returns-then-not-is_here : goal.returns-then-not-is_here
-returns-then-not-is_here g c = rw c.if-not-is_here.true (Walks.nothing c.args.draws.now c.args.book.now)
+returns-then-not-is_here g c = rw c.if-not-is_here.true (Walks.nothing c.args.draws.now c.args.log.now)
 
 pub returns-in_err-try_where : goal.returns-in_err-try_where
 returns-in_err-try_where g c =

@@ -3,7 +3,7 @@ use Rattle.actors.specs.Turns.{Walks}
 use Rattle.actors.proofs.turning.run_client.Goals as goal
 
 pub returns-in_default : goal.returns-in_default
-returns-in_default g c = λ d. rw c.in_default.is (Walks.nothing d c.args.book.now)
+returns-in_default g c = λ d. rw c.in_default.is (Walks.nothing d c.args.log.now)
 
 pub returns-in_err-try_where : goal.returns-in_err-try_where
 returns-in_err-try_where g c = λ d. rw c.in-Some.is (was_wanting _ (c.try_where.ensures d) c.in_err-try_where.was c.from_residual.result c.from_residual.ensures.0)

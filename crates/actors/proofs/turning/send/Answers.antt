@@ -3,7 +3,7 @@ use Rattle.actors.specs.Turns.{Walks}
 use Rattle.actors.proofs.turning.send.Goals as goal
 
 pub returns-in_default : goal.returns-in_default
-returns-in_default g c = rw c.in_default.is (Walks.nothing c.args.draws.now c.args.book.now)
+returns-in_default g c = rw c.in_default.is (Walks.nothing c.args.draws.now c.args.log.now)
 
 pub returns-in_err-try_where : goal.returns-in_err-try_where
 returns-in_err-try_where g c =

@@ -3,7 +3,7 @@ use Rattle.std.specs.Prelude.{nat_le}
 use Rattle.std.proofs.lemmas.Bool.Decides.{nat_tests}
 use Rattle.std.proofs.lemmas.List.{get_or_default}
 use Rattle.cursor_acks.specs.declared.range.IndexRange.{IndexRange}
-use Rattle.audit.proofs.EntryPassing.{ends_by, range_fails, range_holds}
+use Rattle.audit.proofs.EntryAcks.{ends_by, range_fails, range_holds}
 use Rattle.audit.proofs.runs.end_by.Goals as goal
 
 abbrev empty : IndexRange

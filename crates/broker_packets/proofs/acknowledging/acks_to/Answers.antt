@@ -6,5 +6,5 @@ use Rattle.broker_packets.proofs.acknowledging.acks_to.Goals as goal
 
 pub returns : goal.returns
 returns c =
-    let b = c.args.book.now.broker in
-    writes_some b.entries (sub_at b.subs c.args.place) (up_to c.only_index.result) (cumulative_indexes b.ledgers c.args.positions.now) c.up_to.result c.up_to.ensures (sym c.only_index.ensures.only)
+    let b = c.args.state.now.broker in
+    writes_some b.entries (sub_at b.subs c.args.sub_index) (up_to c.only_index.result) (cumulative_indexes b.ledgers c.args.positions.now) c.up_to.result c.up_to.ensures (sym c.only_index.ensures.only)

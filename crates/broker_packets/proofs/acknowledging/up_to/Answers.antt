@@ -3,4 +3,4 @@ use Rattle.broker_packets.proofs.Acks.{to_some}
 use Rattle.broker_packets.proofs.acknowledging.up_to.Goals as goal
 
 pub returns-in-Some : goal.returns-in-Some
-returns-in-Some c = to_some c.args.book.now.broker.entries (sub_at c.args.book.now.broker.subs c.args.place) c.args.index c.in-Some.index c.in-Some.is c.requires
+returns-in-Some c = to_some c.args.state.now.broker.entries (sub_at c.args.state.now.broker.subs c.args.sub_index) c.args.index c.in-Some.index c.in-Some.is c.requires

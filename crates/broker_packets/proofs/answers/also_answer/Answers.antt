@@ -6,13 +6,13 @@ also_send-requires c = let brief = c.requires.first in record { simple = brief.s
 
 pub also_send-requires-in-Some : goal.also_send-requires-in-Some
 also_send-requires-in-Some c =
-    let brief = second_brief c.args.book.now.site.clusters c.args.answer.now.second _ c.in-Some.is c.requires.second in
+    let brief = second_brief c.args.state.now.site.clusters c.args.answer.now.second _ c.in-Some.is c.requires.second in
     record { simple = brief.simple; readable = brief.readable; small = brief.small }
 
 pub returns-in-None : goal.returns-in-None
-returns-in-None c = answers_once c.args.book.now.site.clusters c.args.answer.now c.args.plan.now c.also_send.new.plan c.in-None.is c.in_ok-also_send.ensures.ok
+returns-in-None c = answers_once c.args.state.now.site.clusters c.args.answer.now c.args.plan.now c.also_send.new.plan c.in-None.is c.in_ok-also_send.ensures.ok
 
 pub returns-in_ok-also_send-in-Some : goal.returns-in_ok-also_send-in-Some
 returns-in_ok-also_send-in-Some c =
-    answers_again c.args.book.now.site.clusters c.args.answer.now _ c.args.plan.now c.also_send.new.plan c.also_send-in-Some.new.plan c.in-Some.is
+    answers_again c.args.state.now.site.clusters c.args.answer.now _ c.args.plan.now c.also_send.new.plan c.also_send-in-Some.new.plan c.in-Some.is
     c.in_ok-also_send.ensures.ok c.in_ok-also_send-in-Some.ensures.ok

@@ -6,5 +6,5 @@ use Rattle.broker_packets.proofs.answers.also_receipt.Goals as goal
 
 pub returns : goal.returns
 returns c =
-    subst (λ (a : Answer). OnOk c.also_answer-answered.result (AlsoAnswers c.args.book.now.site.clusters (outs_of a) c.args.plan.now c.also_answer-answered.new.plan))
+    subst (λ (a : Answer). OnOk c.also_answer-answered.result (AlsoAnswers c.args.state.now.site.clusters (outs_of a) c.args.plan.now c.also_answer-answered.new.plan))
     c.receipt_answer-answer.ensures.answer c.also_answer-answered.ensures

@@ -15,8 +15,8 @@ also_answer-requires-clause-small c = subst (λ (n : List ℕ). length n ≤ 102
 
 pub returns-clause-prepared : goal.returns-clause-prepared
 returns-clause-prepared c =
-    let h = c.args.book.now.site in
-    let b = c.args.book.now.broker in
+    let h = c.args.state.now.site in
+    let b = c.args.state.now.broker in
     let x = c.args.client in
     let s = open_at b x in
     let a = c.args.asked.now in

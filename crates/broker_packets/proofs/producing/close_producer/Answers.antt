@@ -9,10 +9,10 @@ use Rattle.broker_packets.proofs.producing.close_producer.Goals as goal
 
 pub returns-clause-prepared : goal.returns-clause-prepared
 returns-clause-prepared c =
-    let b = c.args.book.now.broker in
+    let b = c.args.state.now.broker in
     let ps = without_producer c.args.id (open_at b c.args.client).producers in
     let same : c.in_ok-kept.kept ≡ ps = c.in_ok-kept.ensures ∙ ap (λ (xs : List AttachedProducer). without_producer c.args.id xs) c.open_producers.ensures in
-    having_more c.args.book.now.site b c.args.client (frame.Success c.args.request) c.in_ok-kept.kept ps c.set_producers.new.plan c.also_answer.new.plan same c.in_ok-set_producers.ensures.prepared c.in_ok-also_answer.ensures
+    having_more c.args.state.now.site b c.args.client (frame.Success c.args.request) c.in_ok-kept.kept ps c.set_producers.new.plan c.also_answer.new.plan same c.in_ok-set_producers.ensures.prepared c.in_ok-also_answer.ensures
 
 pub returns-clause-room : goal.returns-clause-room
 returns-clause-room c = λ room. room_more _ room _ _ _ (c.in_ok-set_producers.ensures.room room) c.in_ok-also_answer.ensures

@@ -9,4 +9,4 @@ pub returns : goal.returns
 returns c =
     let m = c.args.publish.now in
     let name = c.name_with-name.ensures ∙ ap (λ (xs : List AttachedProducer). name_with m.id xs) c.open_producers.ensures in
-    c.is_published.ensures ∙ ap (λ (o : Option (List ℕ)). published c.args.book.now.site o m.seq m.source m.entry) name
+    c.is_published.ensures ∙ ap (λ (o : Option (List ℕ)). published c.args.state.now.site o m.seq m.source m.entry) name

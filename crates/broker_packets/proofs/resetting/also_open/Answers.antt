@@ -8,4 +8,4 @@ also_send-sent-requires c =
 
 pub returns : goal.returns
 returns c =
-    opens_sent c.args.book.now.site c.args.remote c.args.session c.in_ok-frame.frame c.args.plan.now c.also_send-sent.new.plan c.in_ok-frame.ensures.frame c.in_ok-sent.ensures.ok
+    opens_sent c.args.state.now.site c.args.remote c.args.session c.in_ok-frame.frame c.args.plan.now c.also_send-sent.new.plan c.in_ok-frame.ensures.frame c.in_ok-sent.ensures.ok

@@ -18,7 +18,7 @@ returns-clause-prepared c =
     let x = c.args.client in
     let ws = write.Create a.sub a.kind a.replicated (not a.earliest) ∷ [] in
     let is = answers_more h now now x (frame.Success a.request) ws (change.Attach a.sub (record { client = x; id = a.id; permits = 0 }) ∷ []) c.prepare_create.new.plan c.also_answer.new.plan refl c.in_ok-prepare_create.ensures.prepared c.in_ok-also_answer.ensures in
-    at_old h c.args.book.now.site now c.args.book.now.broker (λ (b : Broker). joins x (open_at b x) a.sub a.id a.request ws) c.also_answer.new.plan c.in_ok-reserve_places.ensures.site c.in_ok-reserve_places.ensures.broker is
+    at_old h c.args.state.now.site now c.args.state.now.broker (λ (b : Broker). joins x (open_at b x) a.sub a.id a.request ws) c.also_answer.new.plan c.in_ok-reserve_places.ensures.site c.in_ok-reserve_places.ensures.broker is
 
 pub returns-clause-room : goal.returns-clause-room
 returns-clause-room c = room_more _ _ _ _ _ c.in_ok-prepare_create.ensures.room c.in_ok-also_answer.ensures

@@ -15,9 +15,9 @@ returns-clause-prepared c =
     let now = c.reserve_sub.new.self.broker in
     let a = c.args.asked.now in
     let x = c.args.client in
-    let s = sub_at now.subs c.args.place in
+    let s = sub_at now.subs c.args.sub_index in
     let is = answers_more h now now x (frame.Success a.request) (altering s a.kind a.replicated) (change.Attach s.name (record { client = x; id = a.id; permits = 0 }) ∷ []) c.prepare_join.new.plan c.also_answer.new.plan refl c.in_ok-prepare_join.ensures.prepared c.in_ok-also_answer.ensures in
-    at_old h c.args.book.now.site now c.args.book.now.broker (λ (b : Broker). joins x (open_at b x) (sub_at b.subs c.args.place).name a.id a.request (altering (sub_at b.subs c.args.place) a.kind a.replicated)) c.also_answer.new.plan c.in_ok-reserve_sub.ensures.site c.in_ok-reserve_sub.ensures.broker is
+    at_old h c.args.state.now.site now c.args.state.now.broker (λ (b : Broker). joins x (open_at b x) (sub_at b.subs c.args.sub_index).name a.id a.request (altering (sub_at b.subs c.args.sub_index) a.kind a.replicated)) c.also_answer.new.plan c.in_ok-reserve_sub.ensures.site c.in_ok-reserve_sub.ensures.broker is
 
 pub returns-clause-room : goal.returns-clause-room
 returns-clause-room c = room_more _ _ _ _ _ c.in_ok-prepare_join.ensures.room c.in_ok-also_answer.ensures

@@ -4,7 +4,7 @@ use Rattle.broker_packets.proofs.taking.open_session.Goals as goal
 pub returns-clause-prepared : goal.returns-clause-prepared
 returns-clause-prepared c =
     let at = c.args.arrival in
-    opening_prepared c.args.book.now.site c.args.book.now.broker at.source at.again c.args.id c.args.request c.set_session_times.new.plan c.also_succeed.new.plan
+    opening_prepared c.args.state.now.site c.args.state.now.broker at.source at.again c.args.id c.args.request c.set_session_times.new.plan c.also_succeed.new.plan
     c.in_ok-set_session_times.ensures.prepared c.in_ok-also_succeed.ensures
 
 pub returns-clause-room : goal.returns-clause-room

@@ -4,7 +4,7 @@ pub returns-in-Lost-clause-prepared : goal.returns-in-Lost-clause-prepared
 returns-in-Lost-clause-prepared c = rw c.in-Lost.is c.set_session.ensures.prepared
 
 pub returns-in-Lost-clause-room : goal.returns-in-Lost-clause-room
-returns-in-Lost-clause-room c = c.set_session.ensures.room c.args.book.now.room
+returns-in-Lost-clause-room c = c.set_session.ensures.room c.args.state.now.room
 
 pub returns-in-Good-clause-prepared : goal.returns-in-Good-clause-prepared
 returns-in-Good-clause-prepared c = rw c.in-Good.is c.take_once.ensures.prepared

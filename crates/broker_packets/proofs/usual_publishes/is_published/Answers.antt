@@ -8,6 +8,6 @@ use Rattle.broker_packets.proofs.usual_publishes.is_published.Goals as goal
 
 pub returns : goal.returns
 returns c =
-    let m = c.args.came in let h = c.args.book.now.site in
+    let m = c.args.came in let h = c.args.state.now.site in
     let name = c.name_with-name.ensures ∙ ap (λ (xs : List AttachedProducer). name_with m.id xs) c.open_producers.ensures in
     λ is. subst (λ (o : Option (List ℕ)). published h o m.seq (source_viewed h.clusters m.message) (entry_viewed 0 m.message) ≡ true) name (c.is_sound.ensures is)

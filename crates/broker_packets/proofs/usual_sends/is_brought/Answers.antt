@@ -10,7 +10,7 @@ is_from-requires c = rw (c.clusters.ensures.clusters, c.site.ensures.value) c.si
 
 pub returns-then-is_from : goal.returns-then-is_from
 returns-then-is_from c =
-    let h = c.args.book.now.site in let x = c.args.source in let m = c.args.message in
+    let h = c.args.state.now.site in let x = c.args.source in let m = c.args.message in
     let names : c.clusters.result.now ≡ h.clusters = c.clusters.ensures.clusters ∙ ap (λ (g : Site). g.clusters) c.site.ensures.value in
     λ is. record {
       from = sym (c.is_from.ensures ∙ ap (λ (ns : List (List ℕ)). is_from x (option_map (place_of ns) (option_copied m.meta.replicated_from))) names) ∙ c.if-is_from.true;

@@ -4,11 +4,11 @@ use Rattle.broker_packets.proofs.UsualSends.{received_more}
 use Rattle.broker_packets.proofs.usual_sends.prepare_receive.Goals as goal
 
 pub storing_message-requires-clause-storable : goal.storing_message-requires-clause-storable
-storing_message-requires-clause-storable c = message_storable c.args.book.now.site c.args.source c.args.came.message c.requires.receives.brings.small
+storing_message-requires-clause-storable c = message_storable c.args.state.now.site c.args.source c.args.came.message c.requires.receives.brings.small
 
 pub returns-clause-prepared : goal.returns-clause-prepared
 returns-clause-prepared c stamp =
-    received_more c.args.book.now.site c.storing_message.new.book.site c.args.book.now.broker c.args.source stamp c.args.came c.in_ok-position.position c.storing_message.new.plan c.also_receipt.new.plan
+    received_more c.args.state.now.site c.storing_message.new.state.site c.args.state.now.broker c.args.source stamp c.args.came c.in_ok-position.position c.storing_message.new.plan c.also_receipt.new.plan
     c.in_ok-position.ensures.kept.site c.requires.receives c.in_ok-position.ensures.prepared c.in_ok-position.ensures.position c.in_ok-also_receipt.ensures
 
 pub returns-clause-room : goal.returns-clause-room

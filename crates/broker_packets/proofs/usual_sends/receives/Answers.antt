@@ -1,5 +1,6 @@
 use Rattle.std.proofs.Common.{◌≡◌, ap, sym, ◌∙◌}
 use Rattle.std.specs.Prelude.{Option, ℕ, false}
+use Rattle.geo_base.specs.Broker.{receiver_at}
 use Rattle.replicator.specs.declared.receiver.Taken.TheVariants as takes
 use Rattle.replicator.specs.Taking.{taken}
 use Rattle.broker_packets.proofs.UsualSends.{processed}
@@ -8,4 +9,4 @@ use Rattle.broker_packets.proofs.usual_sends.receives.Goals as goal
 pub returns-in-Process : goal.returns-in-Process
 returns-in-Process c =
     let told : taken c.receiver.result.now c.args.came.session false ≡ takes.Process = sym c.next_packet.ensures ∙ c.in-Process.is in
-    λ is. record { open_now = processed _ _ (ap (λ (r : Option ℕ). taken r c.args.came.session false) (sym c.receiver.ensures) ∙ told); brings = c.is_brought.ensures is }
+    λ is. record { open_now = processed (receiver_at c.args.state.now.broker c.args.source) c.args.came.session (ap (λ (r : Option ℕ). taken r c.args.came.session false) (sym c.receiver.ensures) ∙ told); brings = c.is_brought.ensures is }

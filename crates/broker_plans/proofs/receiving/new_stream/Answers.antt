@@ -5,7 +5,7 @@ use Rattle.broker_plans.proofs.receiving.new_stream.Goals as goal
 
 pub returns-then-not-accepts-clause-duplicate : goal.returns-then-not-accepts-clause-duplicate
 returns-then-not-accepts-clause-duplicate c =
-    let es = c.args.book.now.broker.entries in
+    let es = c.args.state.now.broker.entries in
     let i = c.args.ident.now in
     let told = stream_tells es i c.in_ok-stream.stream c.accepts.result c.in_ok-stream.ensures c.accepts.ensures in
     let old : accepts es i ≡ false = cc in
@@ -13,7 +13,7 @@ returns-then-not-accepts-clause-duplicate c =
 
 pub returns-clause-new : goal.returns-clause-new
 returns-clause-new c =
-    let es = c.args.book.now.broker.entries in
+    let es = c.args.state.now.broker.entries in
     let i = c.args.ident.now in
     let told = stream_tells es i c.in_ok-stream.stream c.accepts.result c.in_ok-stream.ensures c.accepts.ensures in
     let new : accepts es i ≡ true = cc in

@@ -8,41 +8,41 @@ use Rattle.broker_plans.proofs.usual.storing_message.Goals as goal
 
 pub returns-then-not-accepts-clause-prepared : goal.returns-then-not-accepts-clause-prepared
 returns-then-not-accepts-clause-prepared c =
-    let b = c.args.book.now.broker in
+    let b = c.args.state.now.broker in
     let e = entry_viewed c.args.origin c.args.message in
     let told = stream_tells b.entries e.ident c.in_ok-stream.stream c.accepts.result c.in_ok-stream.ensures c.accepts.ensures in
     let old : accepts b.entries e.ident ≡ false = cc in
-    old_stored c.args.book.now.site b e c.begin.new.self old c.begin.ensures
+    old_stored c.args.state.now.site b e c.begin.new.self old c.begin.ensures
 
 pub returns-clause-prepared : goal.returns-clause-prepared
 returns-clause-prepared c =
-    let b = c.args.book.now.broker in
+    let b = c.args.state.now.broker in
     let e = entry_viewed c.args.origin c.args.message in
     let told = stream_tells b.entries e.ident c.in_ok-stream.stream c.accepts.result c.in_ok-stream.ensures c.accepts.ensures in
     let new : accepts b.entries e.ident ≡ true = cc in
-    new_stored c.args.book.now.site b e c.append_message.new.plan new c.requires.storable (stores_message e c.begin.new.self c.append_message.new.plan c.begin.ensures c.in_ok-append_message.ensures)
+    new_stored c.args.state.now.site b e c.append_message.new.plan new c.requires.storable (stores_message e c.begin.new.self c.append_message.new.plan c.begin.ensures c.in_ok-append_message.ensures)
 
 pub returns-then-not-accepts-clause-position : goal.returns-then-not-accepts-clause-position
 returns-then-not-accepts-clause-position c =
-    let b = c.args.book.now.broker in
+    let b = c.args.state.now.broker in
     let e = entry_viewed c.args.origin c.args.message in
     let told = stream_tells b.entries e.ident c.in_ok-stream.stream c.accepts.result c.in_ok-stream.ensures c.accepts.ensures in
     let old : accepts b.entries e.ident ≡ false = cc in
-    old_place c.args.book.now.site.per_ledger b e old
+    old_place c.args.state.now.site.per_ledger b e old
 
 pub returns-then-not-accepts-clause-room : goal.returns-then-not-accepts-clause-room
-returns-then-not-accepts-clause-room c = no_room c.args.book.now.room 0 c.begin.new.self c.begin.ensures
+returns-then-not-accepts-clause-room c = no_room c.args.state.now.room 0 c.begin.new.self c.begin.ensures
 
 pub returns-clause-position : goal.returns-clause-position
 returns-clause-position c =
-    let b = c.args.book.now.broker in
+    let b = c.args.state.now.broker in
     let e = entry_viewed c.args.origin c.args.message in
     let told = stream_tells b.entries e.ident c.in_ok-stream.stream c.accepts.result c.in_ok-stream.ensures c.accepts.ensures in
     let new : accepts b.entries e.ident ≡ true = cc in
     let store = c.store.result.now in
     let made = c.in_ok-reserve_entries.ensures in
     let each = c.store.ensures.per_ledger ∙ ap (λ (h : Site). h.per_ledger) made.site in
-    new_position c.args.book.now.site.per_ledger b c.reserve_entries.new.self.broker e store.per_ledger store.ledgers c.next.result new c.next.ensures each c.store.ensures.ledgers made.broker
+    new_position c.args.state.now.site.per_ledger b c.reserve_entries.new.self.broker e store.per_ledger store.ledgers c.next.result new c.next.ensures each c.store.ensures.ledgers made.broker
 
 pub returns-clause-room : goal.returns-clause-room
 returns-clause-room c =

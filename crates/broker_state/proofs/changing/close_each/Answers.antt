@@ -1,6 +1,6 @@
 use Rattle.std.proofs.Common.{ℕ, ◌∙◌, List, ap, arith}
 use Rattle.std.specs.Prelude.{None, Option, slice_set}
-use Rattle.broker_state.proofs.Mapped.{all_mapped, mapped_to, set_mapped}
+use Rattle.geo_base.proofs.Mapped.{all_mapped, mapped_to, set_mapped}
 use Rattle.broker_state.proofs.changing.close_each.Goals as goal
 
 abbrev closed : Option ℕ → Option ℕ

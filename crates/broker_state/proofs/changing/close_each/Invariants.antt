@@ -1,6 +1,6 @@
 use Rattle.std.proofs.Common.{◌≡◌, ℕ}
 use Rattle.std.specs.Prelude.{None, Option}
-use Rattle.broker_state.proofs.Mapped.{mapped_to}
+use Rattle.geo_base.proofs.Mapped.{mapped_to}
 use Rattle.broker_state.proofs.changing.close_each.Given as goal
 
 abbrev pub invariant-loop-receiver : goal.invariant-loop-receiver

@@ -1,7 +1,7 @@
 use Rattle.std.proofs.Common.{◌∙◌, List, ap, arith}
 use Rattle.std.specs.Prelude.{None, Option, slice_set}
 use Rattle.geo_base.specs.declared.session.Session.{Session}
-use Rattle.broker_state.proofs.Mapped.{all_mapped, set_mapped}
+use Rattle.geo_base.proofs.Mapped.{all_mapped, set_mapped}
 use Rattle.broker_state.proofs.changing.end_each.Goals as goal
 
 abbrev ended : Option Session → Option Session

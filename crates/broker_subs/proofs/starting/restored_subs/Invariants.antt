@@ -1,6 +1,6 @@
 use Rattle.std.proofs.Common.{◌≡◌, ◌++◌}
 use Rattle.durable_parts.specs.Parts as durable
-use Rattle.broker_subs.specs.SubBook.{subs_of}
+use Rattle.broker_subs.specs.SubView.{subs_of}
 use Rattle.broker_subs.proofs.starting.restored_subs.Given as goal
 
 -- those that were made, and those that are left

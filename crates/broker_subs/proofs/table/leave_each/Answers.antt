@@ -1,9 +1,9 @@
 use Rattle.std.proofs.Common.{◌≡◌, ◌∙◌, List, ap, get_or, arith}
 use Rattle.std.specs.Prelude.{slice_set}
 use Rattle.geo_base.specs.Subscription.{detached}
-use Rattle.broker_subs.specs.SubBook.{SubBook}
+use Rattle.broker_subs.specs.SubView.{SubView}
 use Rattle.broker_subs.specs.Table.{with_sub}
-use Rattle.broker_subs.proofs.Mapped.{all_mapped, mapped_to, next_mapped, set_mapped}
+use Rattle.geo_base.proofs.Mapped.{all_mapped, mapped_to, next_mapped, set_mapped}
 use Rattle.broker_subs.proofs.table.leave_each.Goals as goal
 
 pub loop-sub-preserved : goal.loop-sub-preserved
@@ -12,9 +12,9 @@ loop-sub-preserved c =
     let olds = c.args.subs.now in
     let k = c.loop-sub.sub-index in
     let item = c.sub-item.result in
-    let is : get_or c.loop-sub.sub-items k item ≡ get_or olds k item = ap (λ (bs : List SubBook). get_or bs k item) c.loop-sub.invariant ∙ next_mapped f k olds item in
-    ap (λ (bs : List SubBook). slice_set bs k c.leave.new.self) c.loop-sub.invariant
-    ∙ ap (λ (b : SubBook). slice_set (mapped_to f k olds) k b) (c.leave.ensures ∙ ap f is)
+    let is : get_or c.loop-sub.sub-items k item ≡ get_or olds k item = ap (λ (bs : List SubView). get_or bs k item) c.loop-sub.invariant ∙ next_mapped f k olds item in
+    ap (λ (bs : List SubView). slice_set bs k c.leave.new.self) c.loop-sub.invariant
+    ∙ ap (λ (b : SubView). slice_set (mapped_to f k olds) k b) (c.leave.ensures ∙ ap f is)
     ∙ set_mapped f k olds item (omega arith)
 
 pub returns : goal.returns

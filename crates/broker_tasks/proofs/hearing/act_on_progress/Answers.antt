@@ -4,7 +4,7 @@ use Rattle.geo_base.specs.declared.change.Change.TheVariants as change
 use Rattle.geo_base.specs.declared.entry.Entry.{Entry}
 use Rattle.geo_base.specs.declared.snapshot.Progress.TheVariants as progress
 use Rattle.geo_base.specs.declared.write.Write.TheVariants as write
-use Rattle.geo_base.specs.Builder.{current_id}
+use Rattle.geo_base.specs.SnapshotBuilder.{current_id}
 use Rattle.geo_base.specs.Markers.{request_marker}
 use Rattle.geo_base.specs.Updating.{handled}
 use Rattle.broker_tasks.proofs.Plans.{progressed}
@@ -12,16 +12,16 @@ use Rattle.broker_tasks.proofs.hearing.act_on_progress.Goals as goal
 
 pub returns-in-Ignored-clause-prepared : goal.returns-in-Ignored-clause-prepared
 returns-in-Ignored-clause-prepared c =
-    progressed c.args.book.now.site c.args.book.now.broker c.args.at.remote c.args.at.index c.args.progress progress.Ignored c.args.builder (handled c.args.at.remote c.args.at.index [] []) c.skip.new.plan c.skip.result c.in-Ignored.is refl c.skip.ensures.prepared
+    progressed c.args.state.now.site c.args.state.now.broker c.args.at.remote c.args.at.index c.args.progress progress.Ignored c.args.builder (handled c.args.at.remote c.args.at.index [] []) c.skip.new.plan c.skip.result c.in-Ignored.is refl c.skip.ensures.prepared
 
 pub returns-in-Kept-clause-prepared : goal.returns-in-Kept-clause-prepared
 returns-in-Kept-clause-prepared c =
-    progressed c.args.book.now.site c.args.book.now.broker c.args.at.remote c.args.at.index c.args.progress progress.Kept c.args.builder (handled c.args.at.remote c.args.at.index [] (change.Building (Some c.args.builder) ∷ [])) c.keep_builder.new.plan c.keep_builder.result c.in-Kept.is refl c.keep_builder.ensures.prepared
+    progressed c.args.state.now.site c.args.state.now.broker c.args.at.remote c.args.at.index c.args.progress progress.Kept c.args.builder (handled c.args.at.remote c.args.at.index [] (change.Building (Some c.args.builder) ∷ [])) c.keep_builder.new.plan c.keep_builder.result c.in-Kept.is refl c.keep_builder.ensures.prepared
 
 pub returns-in-Ok-clause-prepared : goal.returns-in-Ok-clause-prepared
 returns-in-Ok-clause-prepared c =
-    let h = c.args.book.now.site in
-    let b = c.args.book.now.broker in
+    let h = c.args.state.now.site in
+    let b = c.args.state.now.broker in
     let y = c.args.at.remote in
     let i = c.args.at.index in
     let u = c.args.builder in

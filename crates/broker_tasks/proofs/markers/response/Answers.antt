@@ -8,13 +8,13 @@ pub returns-clause-marker : goal.returns-clause-marker
 returns-clause-marker c =
     let store = c.store.result.now in
     let mine = c.own-own.ensures.own ∙ ap (λ (g : Site). g.own) c.site.ensures.value in
-    response_is c.args.book.now.site c.args.book.now.broker c.args.remote c.own-own.result c.args.id.now c.in_ok-text.text store.ledgers store.entries c.last.result c.or_first-position.result c.marker_for.result c.in_ok-text.ensures mine
+    response_is c.args.state.now.site c.args.state.now.broker c.args.remote c.own-own.result c.args.id.now c.in_ok-text.text store.ledgers store.entries c.last.result c.or_first-position.result c.marker_for.result c.in_ok-text.ensures mine
     c.or_first-position.ensures c.last.ensures c.store.ensures.ledgers c.store.ensures.entries c.marker_for.ensures
 
 pub returns-clause-ready : goal.returns-clause-ready
 returns-clause-ready c =
-    let h = c.args.book.now.site in
-    let b = c.args.book.now.broker in
+    let h = c.args.state.now.site in
+    let b = c.args.state.now.broker in
     let y = c.args.remote in
     let id = c.args.id.now in
     let store = c.store.result.now in

@@ -10,14 +10,14 @@ use Rattle.broker_tasks.proofs.offering.give_message.Goals as goal
 pub give_entry-requires-clause-storable : goal.give_entry-requires-clause-storable
 give_entry-requires-clause-storable c =
     let now = c.reserve_sub.new.self in
-    stored_from c.args.book.now.site now.site c.args.book.now.broker now.broker c.args.giving.index c.entry_at.result.now c.in_ok-reserve_sub.ensures.site c.in_ok-reserve_sub.ensures.broker c.requires.can.kept c.entry_at.ensures
+    stored_from c.args.state.now.site now.site c.args.state.now.broker now.broker c.args.giving.index c.entry_at.result.now c.in_ok-reserve_sub.ensures.site c.in_ok-reserve_sub.ensures.broker c.requires.can.kept c.entry_at.ensures
 
 pub returns-clause-prepared : goal.returns-clause-prepared
 returns-clause-prepared c =
-    let h = c.args.book.now.site in
-    let b = c.args.book.now.broker in
+    let h = c.args.state.now.site in
+    let b = c.args.state.now.broker in
     let now = c.reserve_sub.new.self in
-    let k = c.args.giving.place in
+    let k = c.args.giving.sub_index in
     let i = c.args.giving.index in
     let at = c.args.giving.to in
     let e = c.entry_at.result.now in

@@ -1,7 +1,7 @@
 use Rattle.std.proofs.Common.{nat_lt, rules}
 use Rattle.std.proofs.lemmas.List.Sorted.{IsPartitionPoint-from_clause, IsPartitionedBy-ltb}
 use Rattle.cursor_acks.specs.declared.range.IndexRange.{IndexRange}
-use Rattle.cursor_acks.proofs.Places.{place_found, rises}
+use Rattle.cursor_acks.proofs.RangeIndexes.{place_found, rises}
 use Rattle.cursor_acks.proofs.search.place_of.Goals as goal
 
 pub returns : goal.returns

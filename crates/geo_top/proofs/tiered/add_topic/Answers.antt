@@ -2,8 +2,8 @@ use Rattle.std.proofs.Common.{◌++◌, List, [], refl, subst, sym, ◌∙◌}
 use Rattle.std.specs.Prelude.{slice_index_or}
 use Rattle.geo_base.specs.declared.entry.Entry.{Entry}
 use Rattle.geo_base.specs.Report.{with_line_feeds}
-use Rattle.topic_upkeep.specs.Readable.{AreTellable}
-use Rattle.topic_upkeep.specs.Calls.{offloaded}
+use Rattle.tiered_storage.specs.Readable.{AreTellable}
+use Rattle.tiered_storage.specs.Calls.{offloaded}
 use Rattle.geo_top.specs.Shown.{shown_world}
 use Rattle.geo_top.specs.Tiered.{tiers_at}
 use Rattle.geo_top.proofs.Tiers.{entries_there, moved_first, tier_added}

@@ -1,12 +1,12 @@
 use Rattle.std.proofs.Common.{◌++◌}
 use Rattle.geo_base.specs.Report.{cluster_lines, with_line_feeds}
 use Rattle.geo_top.specs.Shown.{shown_world}
-use Rattle.geo_top.proofs.Lines.{place_added, senders_there}
+use Rattle.geo_top.proofs.Lines.{place_added, replicators_there}
 use Rattle.geo_top.proofs.world_report.add_places.Goals as goal
 
 pub add_broker-requires : goal.add_broker-requires
 add_broker-requires c =
-    rw c.topic.ensures (senders_there c.args.scenario.now.setup c.args.world.now c.requires.at c.args.topic c.loop-number.number c.requires.topic
+    rw c.topic.ensures (replicators_there c.args.scenario.now.setup c.args.world.now c.requires.at c.args.topic c.loop-number.number c.requires.topic
     (rw c.clusters-clusters.ensures.names at c.loop-number-test.true))
 
 pub loop-number-preserved : goal.loop-number-preserved

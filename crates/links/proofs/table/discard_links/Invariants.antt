@@ -1,6 +1,6 @@
 use Rattle.std.proofs.Common.{◌≡◌, []}
 use Rattle.links.specs.Queues.{Queue}
-use Rattle.links.proofs.Mapped.{mapped_to}
+use Rattle.geo_base.proofs.Mapped.{mapped_to}
 use Rattle.links.proofs.table.discard_links.Given as goal
 
 abbrev pub invariant-loop-link : goal.invariant-loop-link

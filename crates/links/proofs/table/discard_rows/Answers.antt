@@ -1,7 +1,7 @@
 use Rattle.std.proofs.Common.{◌≡◌, ◌∙◌, List, ap, get_or, arith}
 use Rattle.std.specs.Prelude.{slice_set}
 use Rattle.links.specs.Queues.{Queue, emptied}
-use Rattle.links.proofs.Mapped.{all_mapped, mapped_to, next_mapped, set_mapped}
+use Rattle.geo_base.proofs.Mapped.{all_mapped, mapped_to, next_mapped, set_mapped}
 use Rattle.links.proofs.table.discard_rows.Goals as goal
 
 pub loop-row-preserved : goal.loop-row-preserved

@@ -1,6 +1,6 @@
 use Rattle.std.proofs.Common.{◌≡◌}
 use Rattle.links.specs.Queues.{emptied}
-use Rattle.links.proofs.Mapped.{mapped_to}
+use Rattle.geo_base.proofs.Mapped.{mapped_to}
 use Rattle.links.proofs.table.discard_rows.Given as goal
 
 abbrev pub invariant-loop-row : goal.invariant-loop-row

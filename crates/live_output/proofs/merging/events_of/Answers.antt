@@ -2,7 +2,7 @@ use Rattle.std.proofs.Common.{◌≡◌, length, sym, ap, subst, ◌∙◌}
 use Rattle.std.specs.Prelude.{All, IfOk}
 use Rattle.std.specs.Arc.{arc_value}
 use Rattle.geo_base.specs.Nodes.{node_count}
-use Rattle.merge_history.specs.Books.{AreOwn}
+use Rattle.merge_history.specs.Logs.{AreOwn}
 use Rattle.merge_history.specs.Events.{AreMergedEvents, AreOwnEvents}
 use Rattle.script_text.specs.Script.{Script}
 use Rattle.live_output.specs.Lists.{views_of}
@@ -14,20 +14,20 @@ pub merge_events-requires : goal.merge_events-requires
 merge_events-requires g c =
     let vs = c.as_slice-2.result.now in
     subst (λ (k : Script). length vs ≡ node_count k.setup) (sym c.deref.ensures)
-    (many_views c.args.books.now vs (node_count (arc_value c.args.scenario.now).setup)
-    (c.as_slice-2.ensures.value ∙ (c.in_ok-views.ensures ∙ ap (λ bs. views_of bs) c.as_slice.ensures.books)) c.requires)
+    (many_views c.args.logs.now vs (node_count (arc_value c.args.scenario.now).setup)
+    (c.as_slice-2.ensures.value ∙ (c.in_ok-views.ensures ∙ ap (λ bs. views_of bs) c.as_slice.ensures.logs)) c.requires)
 
 pub returns-clause-all : goal.returns-clause-all
 returns-clause-all g c =
-    subst (λ (k : Script). IfOk c.merge_events.result (AreMergedEvents k.setup (views_of c.args.books.now))) c.deref.ensures
-    (all_of_list c.deref.result.now.setup c.args.books.now c.as_slice-2.result.now c.merge_events.result
-    (c.as_slice-2.ensures.value ∙ (c.in_ok-views.ensures ∙ ap (λ bs. views_of bs) c.as_slice.ensures.books)) c.merge_events.ensures.all)
+    subst (λ (k : Script). IfOk c.merge_events.result (AreMergedEvents k.setup (views_of c.args.logs.now))) c.deref.ensures
+    (all_of_list c.deref.result.now.setup c.args.logs.now c.as_slice-2.result.now c.merge_events.result
+    (c.as_slice-2.ensures.value ∙ (c.in_ok-views.ensures ∙ ap (λ bs. views_of bs) c.as_slice.ensures.logs)) c.merge_events.ensures.all)
 
 pub returns-clause-own : goal.returns-clause-own
 returns-clause-own g c = λ own.
-    subst (λ (k : Script). AreOwn k (views_of c.args.books.now) → IfOk c.merge_events.result (AreOwnEvents k (views_of c.args.books.now))) c.deref.ensures
-    (own_of_list c.deref.result.now c.args.books.now c.as_slice-2.result.now c.merge_events.result
-    (c.as_slice-2.ensures.value ∙ (c.in_ok-views.ensures ∙ ap (λ bs. views_of bs) c.as_slice.ensures.books)) c.as_slice.ensures.replayed c.merge_events.ensures.own) own
+    subst (λ (k : Script). AreOwn k (views_of c.args.logs.now) → IfOk c.merge_events.result (AreOwnEvents k (views_of c.args.logs.now))) c.deref.ensures
+    (own_of_list c.deref.result.now c.args.logs.now c.as_slice-2.result.now c.merge_events.result
+    (c.as_slice-2.ensures.value ∙ (c.in_ok-views.ensures ∙ ap (λ bs. views_of bs) c.as_slice.ensures.logs)) c.as_slice.ensures.replayed c.merge_events.ensures.own) own
 
 pub returns-clause-events : goal.returns-clause-events
 returns-clause-events g c =

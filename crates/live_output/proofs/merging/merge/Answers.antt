@@ -6,5 +6,5 @@ use Rattle.live_output.proofs.merging.merge.Goals as goal
 
 pub returns : goal.returns
 returns g c =
-    merge_of_list (arc_value c.args.scenario.now) c.args.books.now c.as_slice-2.result.now c.merge_books.result
-    (c.as_slice-2.ensures.value ∙ (c.in_ok-views.ensures ∙ ap (λ bs. views_of bs) c.as_slice.ensures.books)) c.as_slice.ensures.replayed c.merge_books.ensures
+    merge_of_list (arc_value c.args.scenario.now) c.args.logs.now c.as_slice-2.result.now c.merge_logs.result
+    (c.as_slice-2.ensures.value ∙ (c.in_ok-views.ensures ∙ ap (λ bs. views_of bs) c.as_slice.ensures.logs)) c.as_slice.ensures.replayed c.merge_logs.ensures

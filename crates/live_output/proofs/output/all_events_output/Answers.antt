@@ -10,10 +10,10 @@ use Rattle.live_output.proofs.output.all_events_output.Goals as goal
 
 pub returns-clause-of_all : goal.returns-clause-of_all
 returns-clause-of_all g c =
-    of_all_if (arc_value c.args.scenario.now) (views_of c.args.books.now) c.in_ok-steps.steps c.output_of.result c.in_ok-steps.ensures.all
+    of_all_if (arc_value c.args.scenario.now) (views_of c.args.logs.now) c.in_ok-steps.steps c.output_of.result c.in_ok-steps.ensures.all
     (subst (λ (k : Script). IfOk c.output_of.result (λ output. output ≡ live_text k (scheduled k.setup c.in_ok-steps.steps))) c.deref.ensures c.output_of.ensures.text)
 
-pub returns-clause-of_books : goal.returns-clause-of_books
-returns-clause-of_books g c = λ own.
-    of_books_if (arc_value c.args.scenario.now) (views_of c.args.books.now) c.in_ok-steps.steps c.output_of.result (c.in_ok-steps.ensures.own own)
+pub returns-clause-of_logs : goal.returns-clause-of_logs
+returns-clause-of_logs g c = λ own.
+    of_books_if (arc_value c.args.scenario.now) (views_of c.args.logs.now) c.in_ok-steps.steps c.output_of.result (c.in_ok-steps.ensures.own own)
     (subst (λ (k : Script). IfOk c.output_of.result (λ output. output ≡ live_text k (scheduled k.setup c.in_ok-steps.steps))) c.deref.ensures c.output_of.ensures.text)

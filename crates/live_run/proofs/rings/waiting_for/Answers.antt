@@ -1,5 +1,5 @@
 use Rattle.std.proofs.Common.{arith}
-use Rattle.book_parts.proofs.Tables.{row_within}
+use Rattle.log_parts.proofs.Tables.{row_within}
 use Rattle.live_run.proofs.rings.waiting_for.Goals as goal
 
 pub swap_remove-take-requires : goal.swap_remove-take-requires

@@ -1,4 +1,4 @@
-use Rattle.topic_upkeep.specs.Last.{IsCompacted}
+use Rattle.topic_compaction.specs.Last.{IsCompacted}
 use Rattle.part_cases.proofs.compacting.agree.Given as goal
 
 abbrev pub invariant-loop : goal.invariant-loop

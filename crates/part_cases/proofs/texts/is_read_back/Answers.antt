@@ -1,6 +1,6 @@
 use Rattle.std.proofs.Common.{List, subst, sym}
 use Rattle.geo_base.specs.declared.entry.Entry.{Entry}
-use Rattle.topic_upkeep.specs.Readable.{AreTellable}
+use Rattle.tiered_storage.specs.Readable.{AreTellable}
 use Rattle.part_cases.proofs.texts.is_read_back.Goals as goal
 
 pub are_read_back-requires-clause-told : goal.are_read_back-requires-clause-told

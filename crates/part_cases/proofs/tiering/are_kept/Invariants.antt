@@ -1,4 +1,4 @@
-use Rattle.topic_upkeep.specs.Tiered.{Holds}
+use Rattle.tiered_storage.specs.Tiered.{Holds}
 use Rattle.part_cases.proofs.tiering.are_kept.Given as goal
 
 abbrev pub invariant-loop-ledger : goal.invariant-loop-ledger

@@ -1,4 +1,4 @@
-use Rattle.topic_upkeep.specs.Tiered.{Holds}
+use Rattle.tiered_storage.specs.Tiered.{Holds}
 use Rattle.part_cases.proofs.tiering.are_read.Given as goal
 
 abbrev pub invariant-loop-row : goal.invariant-loop-row

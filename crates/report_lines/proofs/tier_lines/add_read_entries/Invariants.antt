@@ -1,7 +1,7 @@
 use Rattle.std.proofs.Common.{◌≡◌, ◌++◌, drop, take, length}
 use Rattle.geo_base.specs.Report.{entry_lines, with_line_feeds}
-use Rattle.topic_upkeep.specs.Kept.{kept_in}
-use Rattle.topic_upkeep.specs.Tiered.{Holds}
+use Rattle.tiered_storage.specs.Kept.{kept_in}
+use Rattle.tiered_storage.specs.Tiered.{Holds}
 use Rattle.report_lines.proofs.tier_lines.add_read_entries.Given as goal
 
 -- the lines so far and the rest make the whole

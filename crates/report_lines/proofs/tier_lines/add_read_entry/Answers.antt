@@ -1,6 +1,6 @@
 use Rattle.std.proofs.Common.{sym, ◌∙◌, arith}
 use Rattle.report_lines.proofs.Moving.{entry_there}
-use Rattle.topic_upkeep.proofs.Standing.{past_end}
+use Rattle.tiered_storage.proofs.Standing.{past_end}
 use Rattle.report_lines.proofs.tier_lines.add_read_entry.Goals as goal
 
 pub unreachable-requires : goal.unreachable-requires

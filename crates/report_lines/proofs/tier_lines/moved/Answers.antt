@@ -1,9 +1,9 @@
 use Rattle.std.proofs.Common.{◌<◌, List, length, subst, sym, ap, ◌∙◌, arith}
 use Rattle.geo_base.specs.declared.entry.Entry.{Entry}
 use Rattle.geo_base.specs.declared.position.Position.{Position}
-use Rattle.topic_upkeep.specs.Readable.{AreTellable}
-use Rattle.topic_upkeep.specs.Kept.{TierState, kept_in}
-use Rattle.topic_upkeep.specs.Tiered.{Holds, Tiered, all_here}
+use Rattle.tiered_storage.specs.Readable.{AreTellable}
+use Rattle.tiered_storage.specs.Kept.{TierState, kept_in}
+use Rattle.tiered_storage.specs.Tiered.{Holds, Tiered, all_here}
 use Rattle.report_lines.proofs.Moving.{all_counted, one_more, one_of}
 use Rattle.report_lines.proofs.tier_lines.moved.Goals as goal
 

@@ -1,7 +1,7 @@
 use Rattle.std.proofs.Common.{◌≡◌, ◌≤◌, length}
 use Rattle.geo_base.specs.Topic.{next_position}
-use Rattle.topic_upkeep.specs.Kept.{kept_in}
-use Rattle.topic_upkeep.specs.Tiered.{Holds, all_here}
+use Rattle.tiered_storage.specs.Kept.{kept_in}
+use Rattle.tiered_storage.specs.Tiered.{Holds, all_here}
 use Rattle.report_lines.proofs.Moving.{first_away}
 use Rattle.report_lines.proofs.tier_lines.moved.Given as goal
 

@@ -1,6 +1,6 @@
 use Rattle.std.proofs.Common.{ℕ, ◌<◌, ◌++◌, length, arith, subst}
 use Rattle.std.specs.Prelude.{Option}
-use Rattle.topic_upkeep.specs.View.{IsLeast, is_shown}
+use Rattle.topic_compaction.specs.View.{IsLeast, is_shown}
 use Rattle.geo_base.specs.Report.{with_line_feeds}
 use Rattle.report_lines.specs.Views.{shown_lines}
 use Rattle.report_lines.proofs.Added.{next_stands}

@@ -12,6 +12,6 @@ invariant-loop-index g l =
       begins : take (length l.initial.lines) l.lines ≡ l.initial.lines;
     }
 
--- the next message stands behind those shown
+-- the next message stands after those shown
 abbrev pub decreases-loop-index : goal.decreases-loop-index
 decreases-loop-index g l = length (g.S.EntryStore.entries l.store) - l.from

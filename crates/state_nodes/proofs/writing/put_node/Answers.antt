@@ -20,4 +20,4 @@ returns-clause-err c =
     let s1 = first_stands old c.put_ledgers.new.out _ c.in_ok-put_ledgers.ensures.ok in
     let s2 = still_stands old c.put_ledgers.new.out c.put_entries.new.out _ c.in_ok-put_entries.ensures.ok s1 in
     let s3 = still_stands old c.put_entries.new.out c.put_subs.new.out _ c.in_ok-put_subs.ensures.ok s2 in
-    still_err c.put_senders.result old c.put_subs.new.out c.put_senders.new.out s3 c.put_senders.ensures.err
+    still_err c.put_replicators.result old c.put_subs.new.out c.put_replicators.new.out s3 c.put_replicators.ensures.err

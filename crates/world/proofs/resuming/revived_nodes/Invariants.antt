@@ -5,4 +5,4 @@ use Rattle.world.proofs.resuming.revived_nodes.Given as goal
 
 -- those that were made, and those that are left
 abbrev pub invariant-loop-part : goal.invariant-loop-part
-invariant-loop-part l = IsOnTheWay l.scenario.setup (map broker_of l.fn.parts.items) (map broker_of l.part-iterator.rest.items) l.nodes.items
+invariant-loop-part l = IsOnTheWay l.scenario.setup (map broker_of l.fn.parts.items) (map broker_of l.part-iterator.rest.items) l.brokers.items

@@ -10,6 +10,6 @@ use Rattle.world.proofs.saving.saved_nodes.Given as goal
 -- those so far
 abbrev pub invariant-loop-node : goal.invariant-loop-node
 invariant-loop-node l = record {
-  are : map broker_of l.parts.items ≡ map behind_stop (brokers_of (take l.node-index l.nodes));
+  are : map broker_of l.parts.items ≡ map behind_stop (brokers_of (take l.node-index l.brokers));
   rests : All (λ (b : Broker). HaveRests b.entries) (map broker_of l.parts.items);
 }

@@ -1,7 +1,7 @@
 use Rattle.std.proofs.Common.{◌≡◌, ◌∙◌, List, ap, get_or, arith}
 use Rattle.std.specs.Prelude.{slice_set}
 use Rattle.geo_base.specs.Client.{Client, unconnected}
-use Rattle.links.proofs.Mapped.{all_mapped, mapped_to, next_mapped, set_mapped}
+use Rattle.geo_base.proofs.Mapped.{all_mapped, mapped_to, next_mapped, set_mapped}
 use Rattle.world.proofs.stops.disconnect_all.Goals as goal
 
 pub loop-client-preserved : goal.loop-client-preserved

@@ -1,6 +1,6 @@
 use Rattle.std.proofs.Common.{◌≡◌}
 use Rattle.geo_base.specs.Client.{unconnected}
-use Rattle.links.proofs.Mapped.{mapped_to}
+use Rattle.geo_base.proofs.Mapped.{mapped_to}
 use Rattle.world.proofs.stops.disconnect_all.Given as goal
 
 -- the clients so far have lost theirs

@@ -6,7 +6,7 @@ use Rattle.audit.specs.Brought.{AreBrought, BroughtHere}
 use Rattle.audit.specs.Stored.{is_same_at}
 use Rattle.audit.specs.declared.brought.Route.{Route}
 use Rattle.audit.proofs.Bringing.{first_is_next, none_is_next}
-use Rattle.audit.proofs.EntryPassing.{some_at}
+use Rattle.audit.proofs.EntryAcks.{some_at}
 use Rattle.audit.proofs.brought.Brought.is_next.Goals as goal
 use Rattle.audit.proofs.brought.Brought.is_next.Goals.{in-None, in-Some}
 

@@ -5,7 +5,7 @@ use Rattle.geo_base.specs.declared.entry.Entry.{Entry}
 use Rattle.geo_base.specs.Laws.{of_origin, outbound}
 use Rattle.audit.specs.Brought.{AreBrought, BroughtHere}
 use Rattle.audit.proofs.Bringing.{is_of, more_here, one_brought}
-use Rattle.audit.proofs.EntryPassing.{some_at}
+use Rattle.audit.proofs.EntryAcks.{some_at}
 use Rattle.audit.proofs.brought.Brought.step.Goals as goal
 
 pub returns-in-None-clause-more : goal.returns-in-None-clause-more

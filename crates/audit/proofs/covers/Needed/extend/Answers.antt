@@ -3,7 +3,7 @@ use Rattle.std.specs.Prelude.{Some, slice_get}
 use Rattle.geo_base.specs.declared.entry.Entry.{Entry}
 use Rattle.audit.specs.Covers.{AreNeeded, IsMissing, NeededHere, NeedsHere, is_covered_in}
 use Rattle.audit.proofs.Needing.{needed_more, one_missing}
-use Rattle.audit.proofs.EntryPassing.{some_at}
+use Rattle.audit.proofs.EntryAcks.{some_at}
 use Rattle.audit.proofs.covers.Needed.extend.Goals as goal
 
 pub returns-in-None-clause-missing : goal.returns-in-None-clause-missing

@@ -2,7 +2,7 @@ use Rattle.std.proofs.Common.{◌≡◌, ◌<◌, ◌∷◌, ◌++◌, ◌∙◌
 use Rattle.std.specs.Prelude.{Some, slice_get}
 use Rattle.geo_base.specs.declared.entry.Entry.{Entry}
 use Rattle.audit.specs.Runs.{AreRunsOf, RunStarts, next_start}
-use Rattle.audit.proofs.EntryPassing.{runs_more, some_at}
+use Rattle.audit.proofs.EntryAcks.{runs_more, some_at}
 use Rattle.audit.proofs.runs.Runs.extend.Goals as goal
 
 pub entries-preserved : goal.entries-preserved

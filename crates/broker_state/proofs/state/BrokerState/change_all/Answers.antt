@@ -5,7 +5,7 @@ use Rattle.geo_base.specs.Broker.{changed}
 use Rattle.geo_base.specs.Plan.{all_changed}
 use Rattle.broker_subs.specs.Table.{sub_at}
 use Rattle.broker_state.specs.Writes.{machine_change}
-use Rattle.broker_state.specs.declared.change.BookChange.{BookChange}
+use Rattle.broker_state.specs.declared.change.StateChange.{StateChange}
 use Rattle.broker_state.proofs.InTurn.{change_placed, changes_next, same_change}
 use Rattle.broker_state.proofs.state.BrokerState.change_all.Goals as goal
 
@@ -16,12 +16,12 @@ loop-change-init c = record {
   room = c.requires.room;
   rest = refl;
   site = refl;
-  shape = record { senders = refl; receivers = refl; sessions = refl };
+  shape = record { replicators = refl; receivers = refl; sessions = refl };
 }
 
 pub change-requires : goal.change-requires
 change-requires c =
-    let k = c.args.place in
+    let k = c.args.sub_index in
     let n = (sub_at c.args.self.now.broker.subs k).name in
     let b = c.loop-change.self.broker in
     let inv = c.loop-change.invariant in
@@ -32,15 +32,15 @@ change-requires c =
     let fits = rw items at inv.fits in
     let room = rw items at inv.room in
     record {
-      place = change_placed n k b.subs x named.0;
+      sub_index = change_placed n k b.subs x named.0;
       fits = fits.0;
       room = omega (arith, room.given);
-      senders = omega (arith, room.senders);
+      replicators = omega (arith, room.replicators);
     }
 
 pub loop-change-preserved : goal.loop-change-preserved
 loop-change-preserved c =
-    let k = c.args.place in
+    let k = c.args.sub_index in
     let n = (sub_at c.args.self.now.broker.subs k).name in
     let b = c.loop-change.self.broker in
     let inv = c.loop-change.invariant in
@@ -55,10 +55,10 @@ loop-change-preserved c =
       named = rw c.change.ensures.names named.1;
       fits = rw next fits.1;
       room = changes_next k x xs c.loop-change.self.room c.change.new.self.room room c.change.ensures.room;
-      rest = rw next (ap (λ (ys : List BookChange). all_changed b (map (machine_change n) ys)) (sym items) ∙ inv.rest);
+      rest = rw next (ap (λ (ys : List StateChange). all_changed b (map (machine_change n) ys)) (sym items) ∙ inv.rest);
       site = c.change.ensures.site ∙ inv.site;
       shape = record {
-        senders = c.change.ensures.shape.senders ∙ inv.shape.senders;
+        replicators = c.change.ensures.shape.replicators ∙ inv.shape.replicators;
         receivers = c.change.ensures.shape.receivers ∙ inv.shape.receivers;
         sessions = c.change.ensures.shape.sessions ∙ inv.shape.sessions;
       };

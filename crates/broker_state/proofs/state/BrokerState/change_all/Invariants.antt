@@ -10,11 +10,11 @@ use Rattle.broker_state.proofs.state.BrokerState.change_all.Given as goal
 -- doing what is left is doing all from the start
 abbrev pub invariant-loop-change : goal.invariant-loop-change
 invariant-loop-change l =
-    let n = (sub_at l.fn.self.broker.subs l.place).name in
+    let n = (sub_at l.fn.self.broker.subs l.sub_index).name in
     record {
-      named : ChangesNamed n l.place (names_of l.self.broker.subs) l.changes.items;
-      fits : AllChangesFit n l.place l.self.broker l.changes.items;
-      room : ChangesHaveRoom l.self.room l.place l.changes.items;
+      named : ChangesNamed n l.sub_index (names_of l.self.broker.subs) l.changes.items;
+      fits : AllChangesFit n l.sub_index l.self.broker l.changes.items;
+      room : ChangesHaveRoom l.self.room l.sub_index l.changes.items;
       rest : all_changed l.self.broker (map (machine_change n) l.changes.items) ≡ all_changed l.fn.self.broker (map (machine_change n) l.fn.changes.items);
       site : l.self.site ≡ l.fn.self.site;
       shape : SameShape l.fn.self.broker l.self.broker;

@@ -3,19 +3,19 @@ use Rattle.std.proofs.lemmas.List.{length-map}
 use Rattle.geo_base.specs.Broker.{Broker, changed}
 use Rattle.geo_base.specs.Subscription.{Subscription}
 use Rattle.broker_subs.specs.Steps.{machine_sub_change}
-use Rattle.broker_subs.specs.SubBook.{sub_of, subs_of}
+use Rattle.broker_subs.specs.SubView.{sub_of, subs_of}
 use Rattle.broker_subs.specs.Table.{rooms_of, sub_at}
 use Rattle.broker_state.specs.Room.{Room}
-use Rattle.broker_state.specs.State.{StateBook}
+use Rattle.broker_state.specs.State.{StateView}
 use Rattle.broker_state.proofs.Steps.{sub_changed_is}
 use Rattle.broker_state.proofs.state.BrokerState.change_sub.Goals as goal
 
 pub change-requires : goal.change-requires
 change-requires c =
-    let subs : subs_of c.self.inside.subs.subs ≡ c.args.self.now.broker.subs = ap (λ (b : StateBook). b.broker.subs) c.self.view_is in
-    let rooms : rooms_of c.self.inside.subs.subs ≡ c.args.self.now.room.subs = ap (λ (b : StateBook). b.room.subs) c.self.view_is in
+    let subs : subs_of c.self.inside.subs.subs ≡ c.args.self.now.broker.subs = ap (λ (b : StateView). b.broker.subs) c.self.view_is in
+    let rooms : rooms_of c.self.inside.subs.subs ≡ c.args.self.now.room.subs = ap (λ (b : StateView). b.room.subs) c.self.view_is in
     record {
-      place = omega (arith, c.requires.place, ap (λ (b : StateBook). length b.broker.subs) c.self.view_is, length-map c.self.inside.subs.subs sub_of);
+      sub_index = omega (arith, c.requires.sub_index, ap (λ (b : StateView). length b.broker.subs) c.self.view_is, length-map c.self.inside.subs.subs sub_of);
       room = rw rooms c.requires.room;
       fits = rw subs c.requires.fits;
     }
@@ -23,36 +23,36 @@ change-requires c =
 pub returns-clause-broker : goal.returns-clause-broker
 returns-clause-broker c =
     let i = c.self.inside in
-    let t : StateBook = record {
+    let t : StateView = record {
       site = i.site;
-      broker = record { entries = i.store.entries; ledgers = i.store.ledgers; senders = i.senders.senders; receivers = i.receivers.items; subs = subs_of i.subs.subs; sessions = i.sessions.items; builder = i.builder };
-      room = record { entries = i.store.spare; streams = i.dedup.room; places = i.subs.room; subs = rooms_of i.subs.subs; senders = i.senders.room };
+      broker = record { entries = i.store.entries; ledgers = i.store.ledgers; replicators = i.replicators.replicators; receivers = i.receivers.items; subs = subs_of i.subs.subs; sessions = i.sessions.items; builder = i.builder };
+      room = record { entries = i.store.spare; streams = i.dedup.room; places = i.subs.room; subs = rooms_of i.subs.subs; replicators = i.replicators.room };
     } in
     subst
-    (λ (v : StateBook). ◌≡◌ {A = Broker} (record t.broker { subs = subs_of c.change.new.self.subs }) (changed v.broker (machine_sub_change (sub_at v.broker.subs c.args.place).name c.args.change)))
+    (λ (v : StateView). ◌≡◌ {A = Broker} (record t.broker { subs = subs_of c.change.new.self.subs }) (changed v.broker (machine_sub_change (sub_at v.broker.subs c.args.sub_index).name c.args.change)))
     c.self.view_is
-    (ap (λ (ss : List Subscription). record t.broker { subs = ss }) c.change.ensures.subs ∙ sym (sub_changed_is t.broker (sub_at t.broker.subs c.args.place).name c.args.change))
+    (ap (λ (ss : List Subscription). record t.broker { subs = ss }) c.change.ensures.subs ∙ sym (sub_changed_is t.broker (sub_at t.broker.subs c.args.sub_index).name c.args.change))
 
 pub returns-clause-names : goal.returns-clause-names
 returns-clause-names c =
-    let subs : subs_of c.self.inside.subs.subs ≡ c.args.self.now.broker.subs = ap (λ (b : StateBook). b.broker.subs) c.self.view_is in
+    let subs : subs_of c.self.inside.subs.subs ≡ c.args.self.now.broker.subs = ap (λ (b : StateView). b.broker.subs) c.self.view_is in
     rw (← subs) c.change.ensures.names
 
 pub returns-clause-room : goal.returns-clause-room
 returns-clause-room c =
-    let rooms : rooms_of c.self.inside.subs.subs ≡ c.args.self.now.room.subs = ap (λ (b : StateBook). b.room.subs) c.self.view_is in
+    let rooms : rooms_of c.self.inside.subs.subs ≡ c.args.self.now.room.subs = ap (λ (b : StateView). b.room.subs) c.self.view_is in
     rw (← rooms) c.change.ensures.room
 
 pub returns-clause-rest : goal.returns-clause-rest
 returns-clause-rest c =
     let i = c.self.inside in
-    let t : StateBook = record {
+    let t : StateView = record {
       site = i.site;
-      broker = record { entries = i.store.entries; ledgers = i.store.ledgers; senders = i.senders.senders; receivers = i.receivers.items; subs = subs_of i.subs.subs; sessions = i.sessions.items; builder = i.builder };
-      room = record { entries = i.store.spare; streams = i.dedup.room; places = i.subs.room; subs = rooms_of i.subs.subs; senders = i.senders.room };
+      broker = record { entries = i.store.entries; ledgers = i.store.ledgers; replicators = i.replicators.replicators; receivers = i.receivers.items; subs = subs_of i.subs.subs; sessions = i.sessions.items; builder = i.builder };
+      room = record { entries = i.store.spare; streams = i.dedup.room; places = i.subs.room; subs = rooms_of i.subs.subs; replicators = i.replicators.room };
     } in
     let s = rooms_of c.change.new.self.subs in
     subst
-    (λ (v : StateBook). ◌≡◌ {A = Room} (record t.room { places = c.change.new.self.room; subs = s }) (record v.room { subs = s }))
+    (λ (v : StateView). ◌≡◌ {A = Room} (record t.room { places = c.change.new.self.room; subs = s }) (record v.room { subs = s }))
     c.self.view_is
     (ap (λ (n : ℕ). record t.room { places = n; subs = s }) c.change.ensures.places)

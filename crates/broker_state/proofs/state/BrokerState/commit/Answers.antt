@@ -4,7 +4,7 @@ use Rattle.geo_base.specs.Broker.{Broker}
 use Rattle.geo_base.specs.Plan.{all_changed, all_written}
 use Rattle.broker_subs.specs.Table.{names_of, sub_at}
 use Rattle.broker_state.specs.Fits.{AllChangesFit, ChangesNamed, all_names_after}
-use Rattle.broker_state.specs.Plan.{PlanBook, name_in}
+use Rattle.broker_state.specs.Plan.{PlanView, name_in}
 use Rattle.broker_state.specs.Writes.{machine_change, machine_write}
 use Rattle.broker_state.proofs.InTurn.{all_fit, all_there, renamed, there_named}
 use Rattle.broker_state.proofs.state.BrokerState.commit.Goals as goal
@@ -12,9 +12,9 @@ use Rattle.broker_state.proofs.state.BrokerState.commit.Goals as goal
 pub change_all-requires-clause-named : goal.change_all-requires-clause-named
 change_all-requires-clause-named c =
     let p = c.args.plan.now in
-    let sub : c.plan.inside.sub ≡ p.sub = ap (λ (q : PlanBook). q.sub) c.plan.view_is in
-    let writes : c.plan.inside.writes.items ≡ p.writes = ap (λ (q : PlanBook). q.writes) c.plan.view_is in
-    let changes : c.plan.inside.changes.items ≡ p.changes = ap (λ (q : PlanBook). q.changes) c.plan.view_is in
+    let sub : c.plan.inside.sub ≡ p.sub = ap (λ (q : PlanView). q.sub) c.plan.view_is in
+    let writes : c.plan.inside.writes.items ≡ p.writes = ap (λ (q : PlanView). q.writes) c.plan.view_is in
+    let changes : c.plan.inside.changes.items ≡ p.changes = ap (λ (q : PlanView). q.changes) c.plan.view_is in
     let b = c.args.self.now.broker in
     let ss = c.write_all.new.self.broker.subs in
     let n = name_in b.subs p in
@@ -27,9 +27,9 @@ change_all-requires-clause-named c =
 pub change_all-requires-clause-fits : goal.change_all-requires-clause-fits
 change_all-requires-clause-fits c =
     let p = c.args.plan.now in
-    let sub : c.plan.inside.sub ≡ p.sub = ap (λ (q : PlanBook). q.sub) c.plan.view_is in
-    let writes : c.plan.inside.writes.items ≡ p.writes = ap (λ (q : PlanBook). q.writes) c.plan.view_is in
-    let changes : c.plan.inside.changes.items ≡ p.changes = ap (λ (q : PlanBook). q.changes) c.plan.view_is in
+    let sub : c.plan.inside.sub ≡ p.sub = ap (λ (q : PlanView). q.sub) c.plan.view_is in
+    let writes : c.plan.inside.writes.items ≡ p.writes = ap (λ (q : PlanView). q.writes) c.plan.view_is in
+    let changes : c.plan.inside.changes.items ≡ p.changes = ap (λ (q : PlanView). q.changes) c.plan.view_is in
     let b = c.args.self.now.broker in
     let per = c.args.self.now.site.per_ledger in
     let ss = c.write_all.new.self.broker.subs in
@@ -46,9 +46,9 @@ change_all-requires-clause-fits c =
 pub returns-clause-broker : goal.returns-clause-broker
 returns-clause-broker c =
     let p = c.args.plan.now in
-    let sub : c.plan.inside.sub ≡ p.sub = ap (λ (q : PlanBook). q.sub) c.plan.view_is in
-    let writes : c.plan.inside.writes.items ≡ p.writes = ap (λ (q : PlanBook). q.writes) c.plan.view_is in
-    let changes : c.plan.inside.changes.items ≡ p.changes = ap (λ (q : PlanBook). q.changes) c.plan.view_is in
+    let sub : c.plan.inside.sub ≡ p.sub = ap (λ (q : PlanView). q.sub) c.plan.view_is in
+    let writes : c.plan.inside.writes.items ≡ p.writes = ap (λ (q : PlanView). q.writes) c.plan.view_is in
+    let changes : c.plan.inside.changes.items ≡ p.changes = ap (λ (q : PlanView). q.changes) c.plan.view_is in
     let b = c.args.self.now.broker in
     let per = c.args.self.now.site.per_ledger in
     let ss = c.write_all.new.self.broker.subs in

@@ -2,10 +2,10 @@ use Rattle.std.proofs.Common.{◌∙◌, ap, length, arith}
 use Rattle.geo_base.specs.Broker.{Broker}
 use Rattle.broker_subs.specs.Table.{names_of, room_at, sub_at}
 use Rattle.broker_state.specs.Room.{Room}
-use Rattle.broker_state.specs.Senders.{stepped}
-use Rattle.broker_state.specs.State.{StateBook}
-use Rattle.broker_state.specs.declared.sender_row.SenderStep.TheVariants as sender_step
-use Rattle.broker_state.proofs.SenderSteps.{ack_leaves, session_leaves, step_sender, step_shape}
+use Rattle.broker_state.specs.Replicators.{stepped}
+use Rattle.broker_state.specs.State.{StateView}
+use Rattle.broker_state.specs.declared.replicator_row.ReplicatorStep.TheVariants as replicator_step
+use Rattle.broker_state.proofs.ReplicatorSteps.{ack_leaves, session_leaves, step_replicator, step_shape}
 use Rattle.broker_state.proofs.Steps.{created_is, sub_written_is}
 use Rattle.broker_state.proofs.state.BrokerState.write.Goals as goal
 
@@ -29,7 +29,7 @@ returns-in-Append-clause-names c = rw c.in-Append.is (ap (λ (b : Broker). names
 
 pub returns-in-Append-clause-shape : goal.returns-in-Append-clause-shape
 returns-in-Append-clause-shape c = record {
-  senders = ap (λ (b : Broker). length b.senders) c.append.ensures.broker;
+  replicators = ap (λ (b : Broker). length b.replicators) c.append.ensures.broker;
   receivers = ap (λ (b : Broker). length b.receivers) c.append.ensures.broker;
   sessions = ap (λ (b : Broker). length b.sessions) c.append.ensures.broker;
 }
@@ -39,9 +39,9 @@ returns-in-Append-clause-room c = rw c.in-Append.is (record {
   entries = c.append.ensures.entries;
   streams = c.append.ensures.streams;
   places = omega (arith, ap (λ (r : Room). r.places) c.append.ensures.rest);
-  acks = omega (arith, ap (λ (r : Room). (room_at r.subs c.args.place).acks) c.append.ensures.rest);
-  room = omega (arith, ap (λ (r : Room). (room_at r.subs c.args.place).room) c.append.ensures.rest);
-  senders = omega (arith, ap (λ (r : Room). r.senders) c.append.ensures.rest);
+  acks = omega (arith, ap (λ (r : Room). (room_at r.subs c.args.sub_index).acks) c.append.ensures.rest);
+  room = omega (arith, ap (λ (r : Room). (room_at r.subs c.args.sub_index).room) c.append.ensures.rest);
+  replicators = omega (arith, ap (λ (r : Room). r.replicators) c.append.ensures.rest);
 })
 
 pub create-requires : goal.create-requires
@@ -68,28 +68,28 @@ returns-in-Create-clause-shape c =
     let fits = rw c.in-Create.is at c.requires.fits in
     let is = c.create.ensures.broker ∙ created_is c.args.self.now.site.per_ledger b s.name s.kind s.replicated c.in-Create.latest fits.1 in
     record {
-      senders = ap (λ (x : Broker). length x.senders) is;
+      replicators = ap (λ (x : Broker). length x.replicators) is;
       receivers = ap (λ (x : Broker). length x.receivers) is;
       sessions = ap (λ (x : Broker). length x.sessions) is;
     }
 
 pub returns-in-Create-clause-room : goal.returns-in-Create-clause-room
 returns-in-Create-clause-room c =
-    let place = rw c.in-Create.is at c.requires.place in
-    rw (c.in-Create.is, place) (record {
+    let sub_index = rw c.in-Create.is at c.requires.sub_index in
+    rw (c.in-Create.is, sub_index) (record {
       entries = omega (arith, ap (λ (r : Room). r.entries) c.create.ensures.rest);
       streams = omega (arith, ap (λ (r : Room). r.streams) c.create.ensures.rest);
       places = c.create.ensures.places;
       acks = omega (arith, c.create.ensures.acks);
       room = omega (arith, c.create.ensures.room);
-      senders = omega (arith, ap (λ (r : Room). r.senders) c.create.ensures.rest);
+      replicators = omega (arith, ap (λ (r : Room). r.replicators) c.create.ensures.rest);
     })
 
 pub write_sub-requires : goal.write_sub-requires
 write_sub-requires c =
     let fits = rw c.in-Sub.is at c.requires.fits in
     record {
-      place = rw c.in-Sub.is at c.requires.place;
+      sub_index = rw c.in-Sub.is at c.requires.sub_index;
       acks = rw c.in-Sub.is at c.requires.acks;
       fits = fits.1;
     }
@@ -103,9 +103,9 @@ returns-in-Sub-clause-names c = rw c.in-Sub.is c.write_sub.ensures.names
 pub returns-in-Sub-clause-shape : goal.returns-in-Sub-clause-shape
 returns-in-Sub-clause-shape c =
     let b = c.args.self.now.broker in
-    let is = c.write_sub.ensures.broker ∙ sub_written_is c.args.self.now.site.per_ledger b (sub_at b.subs c.args.place).name b.entries c.in-Sub.write in
+    let is = c.write_sub.ensures.broker ∙ sub_written_is c.args.self.now.site.per_ledger b (sub_at b.subs c.args.sub_index).name b.entries c.in-Sub.write in
     record {
-      senders = ap (λ (x : Broker). length x.senders) is;
+      replicators = ap (λ (x : Broker). length x.replicators) is;
       receivers = ap (λ (x : Broker). length x.receivers) is;
       sessions = ap (λ (x : Broker). length x.sessions) is;
     }
@@ -117,54 +117,54 @@ returns-in-Sub-clause-room c = rw c.in-Sub.is (record {
   places = omega (arith, ap (λ (r : Room). r.places) c.write_sub.ensures.rest);
   acks = c.write_sub.ensures.acks;
   room = omega (arith, c.write_sub.ensures.room);
-  senders = omega (arith, ap (λ (r : Room). r.senders) c.write_sub.ensures.rest);
+  replicators = omega (arith, ap (λ (r : Room). r.replicators) c.write_sub.ensures.rest);
 })
 
 pub step-requires : goal.step-requires
 step-requires c =
-    let fits = rw c.in-SenderAck.is at c.requires.fits in
-    let many = rw c.in-SenderAck.is at c.requires.senders in
+    let fits = rw c.in-ReplicatorAck.is at c.requires.fits in
+    let many = rw c.in-ReplicatorAck.is at c.requires.replicators in
     record {
-      remote = omega (arith, fits.0, ap (λ (b : StateBook). length b.broker.senders) c.self-in-SenderAck.view_is);
-      room = omega (arith, many, ap (λ (b : StateBook). b.room.senders) c.self-in-SenderAck.view_is);
+      remote = omega (arith, fits.0, ap (λ (b : StateView). length b.broker.replicators) c.self-in-ReplicatorAck.view_is);
+      room = omega (arith, many, ap (λ (b : StateView). b.room.replicators) c.self-in-ReplicatorAck.view_is);
       fits = fits.1;
     }
 
-pub returns-in-SenderAck-clause-broker : goal.returns-in-SenderAck-clause-broker
-returns-in-SenderAck-clause-broker c = rw c.in-SenderAck.is (step_sender _ _ c.step.new.self.senders c.in-SenderAck.remote (stepped (sender_step.Acknowledge c.in-SenderAck.index)) c.self-in-SenderAck.view_is c.step.ensures.senders)
+pub returns-in-ReplicatorAck-clause-broker : goal.returns-in-ReplicatorAck-clause-broker
+returns-in-ReplicatorAck-clause-broker c = rw c.in-ReplicatorAck.is (step_replicator _ _ c.step.new.self.replicators c.in-ReplicatorAck.remote (stepped (replicator_step.Acknowledge c.in-ReplicatorAck.index)) c.self-in-ReplicatorAck.view_is c.step.ensures.replicators)
 
-pub returns-in-SenderAck-clause-names : goal.returns-in-SenderAck-clause-names
-returns-in-SenderAck-clause-names c = rw c.in-SenderAck.is (ap (λ (b : StateBook). names_of b.broker.subs) c.self-in-SenderAck.view_is)
+pub returns-in-ReplicatorAck-clause-names : goal.returns-in-ReplicatorAck-clause-names
+returns-in-ReplicatorAck-clause-names c = rw c.in-ReplicatorAck.is (ap (λ (b : StateView). names_of b.broker.subs) c.self-in-ReplicatorAck.view_is)
 
-pub returns-in-SenderAck-clause-site : goal.returns-in-SenderAck-clause-site
-returns-in-SenderAck-clause-site c = ap (λ (b : StateBook). b.site) c.self-in-SenderAck.view_is
+pub returns-in-ReplicatorAck-clause-site : goal.returns-in-ReplicatorAck-clause-site
+returns-in-ReplicatorAck-clause-site c = ap (λ (b : StateView). b.site) c.self-in-ReplicatorAck.view_is
 
-pub returns-in-SenderAck-clause-shape : goal.returns-in-SenderAck-clause-shape
-returns-in-SenderAck-clause-shape c = step_shape _ _ c.step.new.self.senders c.in-SenderAck.remote _ c.self-in-SenderAck.view_is c.step.ensures.senders
+pub returns-in-ReplicatorAck-clause-shape : goal.returns-in-ReplicatorAck-clause-shape
+returns-in-ReplicatorAck-clause-shape c = step_shape _ _ c.step.new.self.replicators c.in-ReplicatorAck.remote _ c.self-in-ReplicatorAck.view_is c.step.ensures.replicators
 
-pub returns-in-SenderAck-clause-room : goal.returns-in-SenderAck-clause-room
-returns-in-SenderAck-clause-room c = rw c.in-SenderAck.is (ack_leaves c.args.place c.in-SenderAck.remote c.in-SenderAck.index _ _ c.step.new.self.room c.self-in-SenderAck.view_is c.step.ensures.room)
+pub returns-in-ReplicatorAck-clause-room : goal.returns-in-ReplicatorAck-clause-room
+returns-in-ReplicatorAck-clause-room c = rw c.in-ReplicatorAck.is (ack_leaves c.args.sub_index c.in-ReplicatorAck.remote c.in-ReplicatorAck.index _ _ c.step.new.self.room c.self-in-ReplicatorAck.view_is c.step.ensures.room)
 
 pub step-requires-in-SessionNumber : goal.step-requires-in-SessionNumber
 step-requires-in-SessionNumber c =
     let fits = rw c.in-SessionNumber.is at c.requires.fits in
     record {
-      remote = omega (arith, fits, ap (λ (b : StateBook). length b.broker.senders) c.self-in-SessionNumber.view_is);
+      remote = omega (arith, fits, ap (λ (b : StateView). length b.broker.replicators) c.self-in-SessionNumber.view_is);
       room = omega arith;
       fits = tt;
     }
 
 pub returns-in-SessionNumber-clause-broker : goal.returns-in-SessionNumber-clause-broker
-returns-in-SessionNumber-clause-broker c = rw c.in-SessionNumber.is (step_sender _ _ c.step-in-SessionNumber.new.self.senders c.in-SessionNumber.remote (stepped (sender_step.Session c.in-SessionNumber.session)) c.self-in-SessionNumber.view_is c.step-in-SessionNumber.ensures.senders)
+returns-in-SessionNumber-clause-broker c = rw c.in-SessionNumber.is (step_replicator _ _ c.step-in-SessionNumber.new.self.replicators c.in-SessionNumber.remote (stepped (replicator_step.Session c.in-SessionNumber.session)) c.self-in-SessionNumber.view_is c.step-in-SessionNumber.ensures.replicators)
 
 pub returns-in-SessionNumber-clause-names : goal.returns-in-SessionNumber-clause-names
-returns-in-SessionNumber-clause-names c = rw c.in-SessionNumber.is (ap (λ (b : StateBook). names_of b.broker.subs) c.self-in-SessionNumber.view_is)
+returns-in-SessionNumber-clause-names c = rw c.in-SessionNumber.is (ap (λ (b : StateView). names_of b.broker.subs) c.self-in-SessionNumber.view_is)
 
 pub returns-in-SessionNumber-clause-site : goal.returns-in-SessionNumber-clause-site
-returns-in-SessionNumber-clause-site c = ap (λ (b : StateBook). b.site) c.self-in-SessionNumber.view_is
+returns-in-SessionNumber-clause-site c = ap (λ (b : StateView). b.site) c.self-in-SessionNumber.view_is
 
 pub returns-in-SessionNumber-clause-shape : goal.returns-in-SessionNumber-clause-shape
-returns-in-SessionNumber-clause-shape c = step_shape _ _ c.step-in-SessionNumber.new.self.senders c.in-SessionNumber.remote _ c.self-in-SessionNumber.view_is c.step-in-SessionNumber.ensures.senders
+returns-in-SessionNumber-clause-shape c = step_shape _ _ c.step-in-SessionNumber.new.self.replicators c.in-SessionNumber.remote _ c.self-in-SessionNumber.view_is c.step-in-SessionNumber.ensures.replicators
 
 pub returns-in-SessionNumber-clause-room : goal.returns-in-SessionNumber-clause-room
-returns-in-SessionNumber-clause-room c = rw c.in-SessionNumber.is (session_leaves c.args.place c.in-SessionNumber.remote c.in-SessionNumber.session _ _ c.step-in-SessionNumber.new.self.room c.self-in-SessionNumber.view_is c.step-in-SessionNumber.ensures.room)
+returns-in-SessionNumber-clause-room c = rw c.in-SessionNumber.is (session_leaves c.args.sub_index c.in-SessionNumber.remote c.in-SessionNumber.session _ _ c.step-in-SessionNumber.new.self.room c.self-in-SessionNumber.view_is c.step-in-SessionNumber.ensures.room)

@@ -7,13 +7,13 @@ use Rattle.broker_subs.specs.Table.{names_of, sub_at}
 use Rattle.broker_state.specs.Fits.{all_names_after}
 use Rattle.broker_state.specs.Plan.{name_of}
 use Rattle.broker_state.specs.Writes.{machine_write}
-use Rattle.broker_state.specs.declared.write.BookWrite.{BookWrite}
+use Rattle.broker_state.specs.declared.write.StateWrite.{StateWrite}
 use Rattle.broker_state.proofs.InTurn.{fits_now, given_next, placed, room_next, same_write}
 use Rattle.broker_state.proofs.state.BrokerState.write_all.Goals as goal
 
 pub loop-write-preserved : goal.loop-write-preserved
 loop-write-preserved c =
-    let k = c.args.place in
+    let k = c.args.sub_index in
     let per = c.args.self.now.site.per_ledger in
     let n = name_of c.args.self.now.broker.subs k c.args.writes.now.items in
     let es = c.args.self.now.broker.entries in
@@ -26,20 +26,20 @@ loop-write-preserved c =
     let fits = rw items at inv.fits in
     let room = rw items at inv.room in
     let given = rw items at inv.given in
-    let senders = rw items at inv.senders in
+    let replicators = rw items at inv.replicators in
     let next : c.write.new.self.broker ≡ written per b (machine_write n es w) =
     c.write.ensures.broker ∙ ap (λ (h : Site). written h.per_ledger b (machine_write (sub_at b.subs k).name b.entries w)) inv.site ∙ ap (λ (x : Write). written per b x) (same_write n es k b w named.0 fits.0) in
     record {
       named = rw c.write.ensures.names named.1;
       fits = rw next fits.1;
       room = room_next k w ws c.loop-write.self.room c.write.new.self.room room c.write.ensures.room;
-      rest = rw next (ap (λ (xs : List BookWrite). all_written per b (map (machine_write n es) xs)) (sym items) ∙ inv.rest);
-      names = rw c.write.ensures.names (ap (λ (xs : List BookWrite). all_names_after k (names_of b.subs) xs) (sym items) ∙ inv.names);
+      rest = rw next (ap (λ (xs : List StateWrite). all_written per b (map (machine_write n es) xs)) (sym items) ∙ inv.rest);
+      names = rw c.write.ensures.names (ap (λ (xs : List StateWrite). all_names_after k (names_of b.subs) xs) (sym items) ∙ inv.names);
       given = omega (arith, given, given_next k w ws c.loop-write.self.room c.write.new.self.room c.write.ensures.room);
-      senders = omega (arith, senders, c.write.ensures.room.senders);
+      replicators = omega (arith, replicators, c.write.ensures.room.replicators);
       site = c.write.ensures.site ∙ inv.site;
       shape = record {
-        senders = c.write.ensures.shape.senders ∙ inv.shape.senders;
+        replicators = c.write.ensures.shape.replicators ∙ inv.shape.replicators;
         receivers = c.write.ensures.shape.receivers ∙ inv.shape.receivers;
         sessions = c.write.ensures.shape.sessions ∙ inv.shape.sessions;
       };
@@ -53,14 +53,14 @@ loop-write-init c = record {
   rest = refl;
   names = refl;
   given = omega arith;
-  senders = omega arith;
+  replicators = omega arith;
   site = refl;
-  shape = record { senders = refl; receivers = refl; sessions = refl };
+  shape = record { replicators = refl; receivers = refl; sessions = refl };
 }
 
 pub write-requires : goal.write-requires
 write-requires c =
-    let k = c.args.place in
+    let k = c.args.sub_index in
     let es = c.args.self.now.broker.entries in
     let b = c.loop-write.self.broker in
     let inv = c.loop-write.invariant in
@@ -71,13 +71,13 @@ write-requires c =
     let fits = rw items at inv.fits in
     let room = rw items at inv.room in
     record {
-      place = placed (name_of c.args.self.now.broker.subs k c.args.writes.now.items) k b.subs w named.0;
+      sub_index = placed (name_of c.args.self.now.broker.subs k c.args.writes.now.items) k b.subs w named.0;
       fits = fits_now es k b w fits.0;
       entries = omega (arith, room.entries);
       streams = omega (arith, room.streams);
       places = omega (arith, room.places);
       acks = room.acks.0;
-      senders = omega (arith, room.senders);
+      replicators = omega (arith, room.replicators);
     }
 
 pub returns-clause-broker : goal.returns-clause-broker
@@ -95,10 +95,10 @@ returns-clause-given c =
     let none : c.loop-write.writes.items ≡ [] = nil_from_length c.loop-write.writes.items (omega (arith, c.in_default.ensures.cases.0, c.loop-write.writes.ok.0)) in
     rw none at c.loop-write.invariant.given
 
-pub returns-clause-senders : goal.returns-clause-senders
-returns-clause-senders c =
+pub returns-clause-replicators : goal.returns-clause-replicators
+returns-clause-replicators c =
     let none : c.loop-write.writes.items ≡ [] = nil_from_length c.loop-write.writes.items (omega (arith, c.in_default.ensures.cases.0, c.loop-write.writes.ok.0)) in
-    let many = rw none at c.loop-write.invariant.senders in
+    let many = rw none at c.loop-write.invariant.replicators in
     omega (arith, many)
 
 pub returns-clause-site : goal.returns-clause-site

@@ -2,7 +2,7 @@ use Rattle.std.proofs.Common.{◌≡◌, nat_lt, List, ap, rules}
 use Rattle.std.proofs.lemmas.List.Sorted.{IsPartitionPoint-from_clause, IsPartitionedBy-ltb}
 use Rattle.cursor_acks.specs.declared.range.IndexRange.{IndexRange}
 use Rattle.cursor_acks.specs.Blocks.{BlockList, end_of, joined}
-use Rattle.cursor_acks.specs.Places.{AreKept}
+use Rattle.cursor_acks.specs.RangeIndexes.{AreKept}
 use Rattle.cursor_acks.proofs.Found.{ends_rise, found_point}
 use Rattle.cursor_acks.proofs.blocks.Blocks.find.Goals as goal
 

@@ -11,11 +11,11 @@ returns-in-Some c =
     let f = flat c.self.inside.ranges.blocks c.place_of.result in
     let here = c.in-Some.ensures.some in
     rw (← c.self.view_is)
-    (ap (λ (x : IndexRange). nat_lt c.args.last x.first) here.1.1 ∙ free_before rs c.args.first c.args.last f c.in-Some.range c.self.invariant c.place_of.ensures.place c.requires here.1.0)
+    (ap (λ (x : IndexRange). nat_lt c.args.last x.first) here.1.1 ∙ free_before rs c.args.first c.args.last f c.in-Some.range c.self.invariant c.place_of.ensures.range_index c.requires here.1.0)
 
 pub returns-in-None : goal.returns-in-None
 returns-in-None c =
     let rs = c.self.inside.ranges.list in
     let f = flat c.self.inside.ranges.blocks c.place_of.result in
     rw (← c.self.view_is)
-    (sym (free_there rs c.args.first c.args.last f c.self.invariant c.place_of.ensures.place (λ d n. absurd (omega (arith, n, c.in-None.ensures.none))) c.requires))
+    (sym (free_there rs c.args.first c.args.last f c.self.invariant c.place_of.ensures.range_index (λ d n. absurd (omega (arith, n, c.in-None.ensures.none))) c.requires))

@@ -1,7 +1,7 @@
 use Rattle.std.proofs.Common.{List, [], ◌∷◌, ◌++◌}
 use Rattle.cursor_acks.specs.declared.range.IndexRange.{IndexRange}
 use Rattle.cursor_acks.specs.Blocks.{joined}
-use Rattle.cursor_acks.specs.Places.{AreKept}
+use Rattle.cursor_acks.specs.RangeIndexes.{AreKept}
 use Rattle.cursor_acks.proofs.Found.{kept_left}
 use Rattle.cursor_acks.proofs.Joined.{joined_append}
 use Rattle.cursor_acks.proofs.list.RangeList.block_of.Goals as goal

@@ -1,5 +1,5 @@
 use Rattle.std.proofs.Common.{◌+◌, ◌-◌, refl, arith}
-use Rattle.cursor_acks.specs.declared.place.Place.{Place}
+use Rattle.cursor_acks.specs.declared.range_index.RangeIndex.{RangeIndex}
 use Rattle.cursor_acks.proofs.Parts.{high_half, low_half}
 use Rattle.cursor_acks.proofs.list.RangeList.make_room.Goals as goal
 
@@ -15,7 +15,7 @@ returns-then-at-le-HALF-clause-room c = rw c.split.ensures.blocks (low_half c.ar
 pub overflow_add-result : goal.overflow_add-result
 overflow_add-result c = omega (arith, c.block.ensures.few)
 
-abbrev moved : Place → Place
+abbrev moved : RangeIndex → RangeIndex
 moved p = record { block = p.block + 1; offset = p.offset - 32 }
 
 pub returns-clause-slot : goal.returns-clause-slot

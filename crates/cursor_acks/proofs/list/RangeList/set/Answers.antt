@@ -1,6 +1,6 @@
 use Rattle.std.proofs.Common.{◌≡◌, ◌+◌, ◌-◌, ◌*◌, ◌<◌, List, [], ◌∷◌, ◌++◌, get_or, length, ap, arith}
 use Rattle.cursor_acks.specs.declared.range.IndexRange.{IndexRange}
-use Rattle.cursor_acks.specs.declared.place.Place.{Place}
+use Rattle.cursor_acks.specs.declared.range_index.RangeIndex.{RangeIndex}
 use Rattle.std.specs.Prelude.{vec_capacity}
 use Rattle.cursor_acks.specs.Blocks.{IsRange, last_room}
 use Rattle.cursor_acks.proofs.Found.{range_within}
@@ -30,7 +30,7 @@ returns-then-at-len-clause-places c =
     let here : IsRange (xs ++ l ∷ []) c.args.at = rw (← c.self.view_is) at c.requires in
     let lt : c.args.at.block < length xs = omega (arith, c.if-at-len.true, c.len.ensures.len) in
     let w : c.args.at.offset < length (get_or xs c.args.at.block []) = omega (arith, here.offset, ap length (get_first xs l c.args.at.block lt)) in
-    rw (← c.self.view_is, c.set.ensures.list) (λ (p : Place) h. places_first xs l c.args.at.block c.args.at.offset c.args.range p lt h)
+    rw (← c.self.view_is, c.set.ensures.list) (λ (p : RangeIndex) h. places_first xs l c.args.at.block c.args.at.offset c.args.range p lt h)
 
 pub returns-then-at-len-clause-spare : goal.returns-then-at-len-clause-spare
 returns-then-at-len-clause-spare c =
@@ -61,4 +61,4 @@ pub returns-else-at-len-clause-places : goal.returns-else-at-len-clause-places
 returns-else-at-len-clause-places c =
     let xs : List (List IndexRange) = c.self.inside.before.list in
     let l : List IndexRange = c.self.inside.last.items in
-    rw (← c.self.view_is) (λ (p : Place) h. places_end xs l c.args.at.offset c.args.range p h)
+    rw (← c.self.view_is) (λ (p : RangeIndex) h. places_end xs l c.args.at.offset c.args.range p h)

@@ -1,7 +1,7 @@
 use Rattle.std.proofs.Common.{◌≡◌, ◌∙◌, [], length, ap, arith}
 use Rattle.std.proofs.lemmas.List.{length-map}
 use Rattle.links.specs.Queues.{Queue, emptied}
-use Rattle.links.proofs.Mapped.{left_whole}
+use Rattle.geo_base.proofs.Mapped.{left_whole}
 use Rattle.links.proofs.table.LinkRow.discard.Goals as goal
 
 pub returns : goal.returns

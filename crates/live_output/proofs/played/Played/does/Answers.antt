@@ -1,6 +1,6 @@
 use Rattle.std.proofs.Common.{arith, refl}
 use Rattle.script_text.specs.Scenario.{IsStep}
-use Rattle.live_output.proofs.OneMore.{known_step, one_more, one_more_fits, one_more_passes, still_played}
+use Rattle.live_output.proofs.OneMore.{known_step, one_more, one_more_fits, one_more_exceeds, still_played}
 use Rattle.live_output.proofs.played.Played.does.Goals as goal
 
 -- it is done
@@ -21,7 +21,7 @@ returns-in_ok-push-in-Ok-clause-at c =
 -- it would pass a limit, and nothing is done
 pub returns-in-Err-TooLarge-clause-over : goal.returns-in-Err-TooLarge-clause-over
 returns-in-Err-TooLarge-clause-over c = λ same. (
-  one_more_passes c.args.scenario.now c.args.self.now.steps c.args.self.now.world c.step.new.self c.args.step c.step.result c.in-Err-TooLarge.field-0
+  one_more_exceeds c.args.scenario.now c.args.self.now.steps c.args.self.now.world c.step.new.self c.args.step c.step.result c.in-Err-TooLarge.field-0
       c.in-Err-TooLarge.field-0-0 c.requires.at c.step.ensures.comes c.in-Err-TooLarge.is c.in-Err-TooLarge.field-0-is,
   refl,
 )

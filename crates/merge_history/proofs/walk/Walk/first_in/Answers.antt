@@ -16,9 +16,9 @@ pub loop-place-preserved : goal.loop-place-preserved
 loop-place-preserved c =
     let kept = c.args.histories.now in let h = c.events-events.result.now in let i = c.loop-place.place in let d = c.index-events-place.result in
     let own : kept_by kept c.args.node ≡ h = kept_there c.args.histories.now c.args.node c.index-histories-node.result c.requires.node (sym c.index-histories-node.is) ∙ sym c.events-events.ensures in
-    let on : IsWalked c.args.layout.now c.args.node (take i h ++ d ∷ []) c.pass.new.self =
-    c.in_ok-pass.ensures c.args.layout.now c.args.node (take i h) c.loop-place.invariant.0 in (
-      subst (λ (ds : List Kept). IsWalked c.args.layout.now c.args.node ds c.pass.new.self) (sym (next_read h i c.loop-place-test.true d (sym c.index-events-place.is))) on,
+    let on : IsWalked c.args.layout.now c.args.node (take i h ++ d ∷ []) c.go_on.new.self =
+    c.in_ok-go_on.ensures c.args.layout.now c.args.node (take i h) c.loop-place.invariant.0 in (
+      subst (λ (ds : List Kept). IsWalked c.args.layout.now c.args.node ds c.go_on.new.self) (sym (next_read h i c.loop-place-test.true d (sym c.index-events-place.is))) on,
       sent_up_to c.args.layout.now kept c.args.node i h c.loop-place.self d own c.loop-place-test.true (sym c.index-events-place.is) c.loop-place.invariant.0 c.loop-place.invariant.1
           (c.in_default.ensures.none kept c.requires.outboxes refl),
     )

@@ -1,6 +1,6 @@
 use Rattle.std.proofs.Common.{ap, sym, ◌∙◌}
 use Rattle.std.specs.Prelude.{Some}
-use Rattle.geo_base.specs.declared.sender.Pending.{Pending}
+use Rattle.geo_base.specs.declared.replicator.Pending.{Pending}
 use Rattle.geo_base.specs.Ascending.{IsGap, IsHere}
 use Rattle.replicator.specs.Sending.{PendingEntries, number_of}
 use Rattle.replicator.proofs.Pendings.{pending_gap, pending_here}

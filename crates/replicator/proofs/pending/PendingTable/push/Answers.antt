@@ -1,7 +1,7 @@
 use Rattle.std.proofs.Common.{◌<◌, ap}
 use Rattle.std.specs.List.{All}
 use Rattle.std.proofs.lemmas.List.Quantifiers.{all_pairs_push}
-use Rattle.geo_base.specs.declared.sender.Pending.{Pending}
+use Rattle.geo_base.specs.declared.replicator.Pending.{Pending}
 use Rattle.replicator.specs.Sending.{PendingEntries}
 use Rattle.replicator.proofs.pending.PendingTable.push.Goals as goal
 

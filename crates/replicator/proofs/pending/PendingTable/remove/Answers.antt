@@ -2,7 +2,7 @@ use Rattle.std.proofs.Common.{◌≡◌, ◌<◌, ap, subst, sym, ◌∙◌, ari
 use Rattle.std.specs.Prelude.{Option, OnSome}
 use Rattle.std.specs.List.{remove}
 use Rattle.std.specs.VecDeque.{deque_len}
-use Rattle.geo_base.specs.declared.sender.Pending.{Pending}
+use Rattle.geo_base.specs.declared.replicator.Pending.{Pending}
 use Rattle.geo_base.specs.Ascending.{IsGap, IsHere}
 use Rattle.replicator.specs.Sending.{PendingEntries, number_of}
 use Rattle.replicator.proofs.Pendings.{pending_gap, pending_here}

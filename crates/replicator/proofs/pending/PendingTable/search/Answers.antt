@@ -2,7 +2,7 @@ use Rattle.std.proofs.Common.{◌<◌, ◌≤◌, length, get_or, nat_lt, rules,
 use Rattle.std.specs.Prelude.{◌≢◌}
 use Rattle.std.proofs.lemmas.List.{get_or_default}
 use Rattle.std.proofs.lemmas.List.Sorted.{IsPartitionPoint-from_clause, IsPartitionedBy-ltb}
-use Rattle.geo_base.specs.declared.sender.Pending.{Pending}
+use Rattle.geo_base.specs.declared.replicator.Pending.{Pending}
 use Rattle.geo_base.specs.Ascending.{IsGap, IsHere}
 use Rattle.geo_base.proofs.Ascending.{place_found, rises}
 use Rattle.replicator.specs.Sending.{PendingEntries, number_of}

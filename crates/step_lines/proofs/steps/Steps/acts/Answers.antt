@@ -1,15 +1,15 @@
 use Rattle.std.proofs.Common.{Bool, true, Ok, Result, ap, length, subst, sym, ◌∙◌}
 use Rattle.std.proofs.lemmas.Result.{err_from_is_err_and}
 use Rattle.std.specs.Prelude.{Err}
-use Rattle.broker_state.specs.Plan.{PlanBook}
+use Rattle.broker_state.specs.Plan.{PlanView}
 use Rattle.geo_base.specs.declared.memory.Memory.{Memory}
 use Rattle.geo_base.specs.Happening.{happens}
 use Rattle.step_lines.specs.Texts.{telling_of}
 use Rattle.step_lines.proofs.Resting.{may_rest, rests_after, seen_many}
-use Rattle.step_lines.proofs.Told.{acted, from_same, from_text, never_answered, ok_passes_none, rests, wants_no_limit}
+use Rattle.step_lines.proofs.Told.{acted, from_same, from_text, never_answered, ok_exceeds_none, rests, wants_no_limit}
 use Rattle.world.specs.Foreseen.{IsHalfDone}
 use Rattle.world.specs.World.{node_at}
-use Rattle.world_kept.specs.Events.{node_of}
+use Rattle.kept_laws.specs.Events.{node_of}
 use Rattle.world.proofs.Acting.{acts_from, acts_wants, later_from, later_same, never_idle, same_both, stands_from}
 use Rattle.step_lines.proofs.steps.Steps.acts.Goals as goal
 
@@ -45,7 +45,7 @@ returns-then-not-is_ready c =
     }
 
 pub note-requires : goal.note-requires
-note-requires c = record { at = c.prepare.ensures.at; broker = c.requires.broker; scripted = c.requires.scripted; place = c.place_of-place.ensures }
+note-requires c = record { at = c.prepare.ensures.at; broker = c.requires.broker; scripted = c.requires.scripted; broker_ref = c.broker_ref_of-broker_ref.ensures }
 
 pub returns-in_err-note : goal.returns-in_err-note
 returns-in_err-note c =
@@ -68,8 +68,8 @@ finish-requires c =
       at = c.prepare.ensures.at;
       broker = c.requires.broker;
       scripted = c.requires.scripted;
-      place = c.place_of-place.ensures;
-      ready = subst (λ (p : PlanBook). IsHalfDone c.args.scenario.now.setup c.prepare.new.self c.args.event.now p) (sym c.note.ensures.plan) half;
+      broker_ref = c.broker_ref_of-broker_ref.ensures;
+      ready = subst (λ (p : PlanView). IsHalfDone c.args.scenario.now.setup c.prepare.new.self c.args.event.now p) (sym c.note.ensures.plan) half;
     }
 
 pub returns-in_err-finish : goal.returns-in_err-finish
@@ -93,9 +93,9 @@ tell_event-requires c =
       knows = from_same c.args.scenario.now.setup c.args.self.now.telling c.note.new.self.telling c.note.ensures.telling c.requires.knows;
       broker = c.requires.broker;
       scripted = c.requires.scripted;
-      place = c.place_of-place.ensures;
+      broker_ref = c.broker_ref_of-broker_ref.ensures;
       noted =
-          seen_many c.note.new.self.rests (length c.args.scenario.now.setup.clusters) (node_at c.prepare.new.self.nodes (node_of c.args.scenario.now.setup c.args.event.now)).broker c.note.new.self.noted
+          seen_many c.note.new.self.rests (length c.args.scenario.now.setup.clusters) (node_at c.prepare.new.self.brokers (node_of c.args.scenario.now.setup c.args.event.now)).broker c.note.new.self.noted
           c.in_ok-note.ensures.noted;
     }
 
@@ -120,12 +120,12 @@ returns c =
     record {
       told = λ w reached stands.
           let there = stands_from s old mid w same stands in
-          let e = c.args.event.now in let b = (node_at mid.nodes (node_of s e)).broker in let a = (node_at new.nodes (node_of s e)).broker in let r = c.note.new.self.rests in
+          let e = c.args.event.now in let b = (node_at mid.brokers (node_of s e)).broker in let a = (node_at new.brokers (node_of s e)).broker in let r = c.note.new.self.rests in
           let rested = may_rest r b a
           (λ is.
           let known = c.note.ensures.rests is in
           rests_after s w mid new e c.prepare.new.plan c.requires.broker c.requires.scripted c.prepare.ensures.at c.finish.ensures.at there (c.in_ok-finish.ensures.acts w reached there).0
-          (half.foreseen w reached there) half.busy (sym c.writes_senders_alone-may_rest.ensures ∙ known.0) known.1) in
+          (half.foreseen w reached there) half.busy (sym c.writes_replicators_alone-may_rest.ensures ∙ known.0) known.1) in
           acted c.args.indent s w mid new e c.prepare.new.plan (telling_of c.args.self.now.telling) (telling_of c.tell_event.new.self.telling)
           c.requires.broker c.requires.scripted c.prepare.ensures.at c.finish.ensures.at there (c.in_ok-finish.ensures.acts w reached there).0 (half.foreseen w reached there) half.busy
           (from_text c.args.indent s new e b c.args.self.now.telling c.note.new.self.telling _ c.note.ensures.telling (c.in_ok-tell_event.ensures.told b c.in_ok-note.ensures.noted rested));
@@ -134,5 +134,5 @@ returns c =
       later = later_from old mid new same c.finish.ensures.later;
       knows = c.tell_event.ensures.knows;
       idle = λ is. never_idle is;
-      past = λ n is. ok_passes_none is;
+      past = λ n is. ok_exceeds_none is;
     }

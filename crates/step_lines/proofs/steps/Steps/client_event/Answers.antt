@@ -2,7 +2,7 @@ use Rattle.std.proofs.Common.{ℕ, ◌==◌, ap, ◌∙◌}
 use Rattle.std.proofs.lemmas.Result.{err_from_is_err_and}
 use Rattle.step_lines.specs.Telling.{client_step, tells_step}
 use Rattle.step_lines.specs.Texts.{telling_of}
-use Rattle.world.specs.ClientSteps.{client_in as book_client}
+use Rattle.world.specs.ClientSteps.{client_in as log_client}
 use Rattle.step_lines.proofs.Told.{client_in, client_noted, client_told, wants_no_limit}
 use Rattle.world.proofs.ClientEvents.{client_below, client_is}
 use Rattle.world.proofs.Leading.{wants}
@@ -33,7 +33,7 @@ returns-clause-told c = λ w reached stands.
     let k = c.client.result.now in
     client_told s n e w old new k _ (telling_of c.args.self.now.telling) (telling_of c.tell_client.new.self.telling) c.requires.client stands led
     (client_noted s old w n k c.requires.at here stands c.client.ensures) (client_is s new _ n c.event.ensures.at here led)
-    (c.in_ok-tell_client.ensures.told k c.client_of-noted.ensures ∙ ap (λ (m : ℕ). tells_step s (telling_of c.args.self.now.telling) (client_step s n (new.events == m) k (book_client new.clients n))) c.events-before.ensures.events)
+    (c.in_ok-tell_client.ensures.told k c.client_of-noted.ensures ∙ ap (λ (m : ℕ). tells_step s (telling_of c.args.self.now.telling) (client_step s n (new.events == m) k (log_client new.clients n))) c.events-before.ensures.events)
 
 pub client-requires : goal.client-requires
 client-requires c = client_below c.args.scenario.now.setup c.args.world.now c.args.client c.requires.at (client_in c.args.scenario.now.setup c.args.client c.args.event.now c.requires.client c.requires.scripted)

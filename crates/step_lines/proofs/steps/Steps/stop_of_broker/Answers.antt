@@ -6,13 +6,13 @@ use Rattle.step_lines.specs.Texts.{telling_of}
 use Rattle.step_lines.proofs.Resting.{may_rest, seen_many}
 use Rattle.step_lines.proofs.Told.{from_same, from_text, halted, wants_no_limit}
 use Rattle.world.specs.World.{node_at}
-use Rattle.world_kept.specs.Events.{node_of}
+use Rattle.kept_laws.specs.Events.{node_of}
 use Rattle.world.proofs.Leading.{wants}
 use Rattle.world.proofs.Observing.{past_of}
 use Rattle.step_lines.proofs.steps.Steps.stop_of_broker.Goals as goal
 
 pub note-requires : goal.note-requires
-note-requires c = record { at = c.requires.at; broker = c.requires.broker; scripted = c.requires.scripted; place = c.place_of-place.ensures }
+note-requires c = record { at = c.requires.at; broker = c.requires.broker; scripted = c.requires.scripted; broker_ref = c.broker_ref_of-broker_ref.ensures }
 
 pub returns-in_err-note : goal.returns-in_err-note
 returns-in_err-note c =
@@ -43,9 +43,9 @@ tell_event-requires c =
       knows = from_same c.args.scenario.now.setup c.args.self.now.telling c.note.new.self.telling c.note.ensures.telling c.requires.knows;
       broker = c.requires.broker;
       scripted = c.requires.scripted;
-      place = c.place_of-place.ensures;
+      broker_ref = c.broker_ref_of-broker_ref.ensures;
       noted =
-          seen_many c.note.new.self.rests (length c.args.scenario.now.setup.clusters) (node_at c.args.world.now.nodes (node_of c.args.scenario.now.setup c.args.event.now)).broker c.note.new.self.noted
+          seen_many c.note.new.self.rests (length c.args.scenario.now.setup.clusters) (node_at c.args.world.now.brokers (node_of c.args.scenario.now.setup c.args.event.now)).broker c.note.new.self.noted
           c.in_ok-note.ensures.noted;
     }
 
@@ -65,7 +65,7 @@ returns c =
     let s = c.args.scenario.now.setup in
     record {
       told = λ w reached stands.
-          let e = c.args.event.now in let b = (node_at c.args.world.now.nodes (node_of s e)).broker in let a = (node_at c.halt.new.self.nodes (node_of s e)).broker in
+          let e = c.args.event.now in let b = (node_at c.args.world.now.brokers (node_of s e)).broker in let a = (node_at c.halt.new.self.brokers (node_of s e)).broker in
           let rested = may_rest c.note.new.self.rests b a (λ is. absurd (false≢true (c.note.ensures.rests is).0)) in
           halted s w c.args.writes c.args.world.now c.halt.new.self e (telling_of c.args.self.now.telling) (telling_of c.tell_event.new.self.telling)
           c.requires.broker c.requires.scripted c.requires.at c.halt.ensures.at stands (c.in_ok-halt.ensures.leads w reached stands).done.0

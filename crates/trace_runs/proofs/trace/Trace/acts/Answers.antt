@@ -3,10 +3,10 @@ use Rattle.std.proofs.lemmas.Result.{err_from_is_err_and}
 use Rattle.geo_base.specs.declared.memory.Memory.{Memory}
 use Rattle.std.specs.Prelude.{Err}
 use Rattle.geo_base.specs.Happening.{happens}
-use Rattle.broker_state.specs.Plan.{PlanBook}
+use Rattle.broker_state.specs.Plan.{PlanView}
 use Rattle.world.specs.Foreseen.{IsHalfDone}
 use Rattle.world.specs.World.{node_at}
-use Rattle.world_kept.specs.Events.{node_of}
+use Rattle.kept_laws.specs.Events.{node_of}
 use Rattle.world.proofs.Acting.{acts_from, acts_wants, later_from, later_same, never_idle, same_both, stands_from}
 use Rattle.trace_runs.proofs.Growing.{happens_longer}
 use Rattle.trace_runs.proofs.Knowing.{known_on, same_known}
@@ -53,7 +53,7 @@ tell_at-requires c =
       tables = same_known s c.args.self.now.telling.snapshots old mid c.prepare.ensures.same c.requires.tables;
       broker = c.requires.broker;
       scripted = c.requires.scripted;
-      place = c.place_of-place.ensures;
+      broker_ref = c.broker_ref_of-broker_ref.ensures;
       foreseen = half.foreseen;
     }
 
@@ -78,8 +78,8 @@ finish-requires c =
       at = c.prepare.ensures.at;
       broker = c.requires.broker;
       scripted = c.requires.scripted;
-      place = c.place_of-place.ensures;
-      ready = subst (λ (p : PlanBook). IsHalfDone c.args.scenario.now.setup c.prepare.new.self c.args.event.now p) (sym c.tell_at.ensures.plan) half;
+      broker_ref = c.broker_ref_of-broker_ref.ensures;
+      ready = subst (λ (p : PlanView). IsHalfDone c.args.scenario.now.setup c.prepare.new.self c.args.event.now p) (sym c.tell_at.ensures.plan) half;
     }
 
 pub returns-in_err-finish : goal.returns-in_err-finish
@@ -99,7 +99,7 @@ returns-in_err-finish c =
 pub returns : goal.returns
 returns c =
     let s = c.args.scenario.now.setup in let old = c.args.world.now in let mid = c.prepare.new.self in let new = c.finish.new.self in let same = c.prepare.ensures.same in
-    let e = c.args.event.now in let h = c.prepare.ensures.at in let v = node_at mid.nodes (node_of s e) in
+    let e = c.args.event.now in let h = c.prepare.ensures.at in let v = node_at mid.brokers (node_of s e) in
     let half = c.prepare.ensures.ready (c.in_ok-is_ready.was ∙ ap answered c.if-not-is_ready.false) in
     record {
       told = λ w reached stands.

@@ -1,7 +1,7 @@
 use Rattle.std.proofs.Common.{refl}
 use Rattle.std.proofs.lemmas.Result.{err_from_is_err_and}
 use Rattle.world.specs.World.{node_at}
-use Rattle.world_kept.specs.Events.{node_of}
+use Rattle.kept_laws.specs.Events.{node_of}
 use Rattle.world.proofs.Acting.{stands_from}
 use Rattle.trace_runs.proofs.Knowing.{halt_known, same_known}
 use Rattle.trace_runs.proofs.ItemsTold.{always, halt_told, leads_from, leads_wants, past_from}
@@ -13,7 +13,7 @@ tell_at-requires c = record {
   tables = same_known c.args.scenario.now.setup c.args.self.now.telling.snapshots c.args.world.now c.prepare_halt.new.self c.prepare_halt.ensures.same c.requires.tables;
   broker = c.requires.broker;
   scripted = c.requires.scripted;
-  place = c.place_of-place.ensures;
+  broker_ref = c.broker_ref_of-broker_ref.ensures;
   foreseen = c.in_ok-prepare_halt.ensures.foreseen;
 }
 
@@ -35,7 +35,7 @@ returns-clause-told c = λ w reached stands.
     let s = c.args.scenario.now.setup in let mid = c.prepare_halt.new.self in let e = c.args.event.now in
     let there = stands_from s c.args.world.now mid w c.prepare_halt.ensures.same stands in
     always _ c.halt.result
-    (halt_told s w e (node_at mid.nodes (node_of s e)) c.prepare_halt.new.plan c.args.writes w.events c.args.self.now.telling.text c.tell_at.new.self.telling.text c.requires.broker c.requires.scripted
+    (halt_told s w e (node_at mid.brokers (node_of s e)) c.prepare_halt.new.plan c.args.writes w.events c.args.self.now.telling.text c.tell_at.new.self.telling.text c.requires.broker c.requires.scripted
     (c.in_ok-prepare_halt.ensures.foreseen w reached there) refl (c.in_ok-tell_at.ensures.told w reached there))
 
 pub returns-clause-leads : goal.returns-clause-leads

@@ -1,10 +1,10 @@
 use Rattle.std.proofs.Common.{sym, subst}
 use Rattle.std.specs.Prelude.{OnErr}
 use Rattle.geo_base.specs.Happening.{happens}
-use Rattle.world_kept.specs.Standing.{Stands}
+use Rattle.kept_laws.specs.Standing.{Stands}
 use Rattle.world.specs.Steps.{Acts, IsLater}
 use Rattle.std.proofs.lemmas.Result.{err_from_is_err_and}
-use Rattle.world.specs.World.{IsAt, SameWorld, WorldBook, kept_of}
+use Rattle.world.specs.World.{IsAt, SameWorld, WorldView, kept_of}
 use Rattle.world.proofs.Acting.{acts_wants, later_same}
 use Rattle.world.proofs.Places.{at_same}
 use Rattle.world.proofs.Waiting.{acts_waiting, same_itself}
@@ -15,7 +15,7 @@ returns-then-is_waiting c =
     let b = c.args.self.now in
     record {
       acts = λ w reached stands.
-          acts_waiting c.args.scenario.now.setup b w c.args.event.now c.place_of-place.result c.requires.at c.requires.broker c.requires.scripted c.place_of-place.ensures
+          acts_waiting c.args.scenario.now.setup b w c.args.event.now c.broker_ref_of-broker_ref.result c.requires.at c.requires.broker c.requires.scripted c.broker_ref_of-broker_ref.ensures
           (c.is_waiting.ensures c.if-is_waiting.true) reached stands;
       at = c.requires.at;
       later = later_same b b (same_itself b);
@@ -26,7 +26,7 @@ returns-then-is_waiting c =
 pub returns-in_err-plan : goal.returns-in_err-plan
 returns-in_err-plan c =
     let s = c.args.scenario.now.setup in let old = c.args.self.now in let mid = c.take_plan.new.self in
-    let same = subst (λ (b : WorldBook). SameWorld old b) (sym c.take_plan.ensures.same) (same_itself old) in
+    let same = subst (λ (b : WorldView). SameWorld old b) (sym c.take_plan.ensures.same) (same_itself old) in
     let p = err_from_is_err_and c.from_residual.result c.from_residual.ensures.1 in
     record {
       acts = λ w reached stands. rw (p.1, p.2) (acts_wants s old mid (happens s w c.args.event.now));
@@ -37,7 +37,7 @@ returns-in_err-plan c =
     }
 
 pub acts_in-acted-requires-clause-at : goal.acts_in-acted-requires-clause-at
-acts_in-acted-requires-clause-at c = subst (λ (b : WorldBook). IsAt c.args.scenario.now.setup b) (sym c.take_plan.ensures.same) c.requires.at
+acts_in-acted-requires-clause-at c = subst (λ (b : WorldView). IsAt c.args.scenario.now.setup b) (sym c.take_plan.ensures.same) c.requires.at
 
 -- the plan is taken out before, and kept behind
 pub returns : goal.returns
@@ -47,10 +47,10 @@ returns c =
     record {
       acts = λ w reached stands.
           let next = happens s w c.args.event.now in
-          let acts = acted.acts w reached (subst (λ (b : WorldBook). Stands s (kept_of b) w) (sym before) stands) in
-          subst (λ (b : WorldBook). Acts s old b next r) (sym behind) (subst (λ (b : WorldBook). Acts s b new next r) before acts);
-      at = subst (λ (b : WorldBook). IsAt s b) (sym behind) acted.at;
-      later = subst (λ (b : WorldBook). IsLater old b) (sym behind) (subst (λ (b : WorldBook). IsLater b new) before acted.later);
-      idle = λ is. subst (λ (b : WorldBook). SameWorld old b) (sym behind) (subst (λ (b : WorldBook). SameWorld b new) before (acted.idle is));
-      err = subst (λ (b : WorldBook). OnErr r (SameWorld old b)) (sym behind) (subst (λ (b : WorldBook). OnErr r (SameWorld b new)) before acted.err);
+          let acts = acted.acts w reached (subst (λ (b : WorldView). Stands s (kept_of b) w) (sym before) stands) in
+          subst (λ (b : WorldView). Acts s old b next r) (sym behind) (subst (λ (b : WorldView). Acts s b new next r) before acts);
+      at = subst (λ (b : WorldView). IsAt s b) (sym behind) acted.at;
+      later = subst (λ (b : WorldView). IsLater old b) (sym behind) (subst (λ (b : WorldView). IsLater b new) before acted.later);
+      idle = λ is. subst (λ (b : WorldView). SameWorld old b) (sym behind) (subst (λ (b : WorldView). SameWorld b new) before (acted.idle is));
+      err = subst (λ (b : WorldView). OnErr r (SameWorld old b)) (sym behind) (subst (λ (b : WorldView). OnErr r (SameWorld b new)) before acted.err);
     }

@@ -40,7 +40,7 @@ finish-requires c = record {
   at = c.prepare_enabled.ensures.at;
   broker = c.requires.broker;
   scripted = c.requires.scripted;
-  place = c.requires.place;
+  broker_ref = c.requires.broker_ref;
   ready = c.prepare_enabled.ensures.ready (c.in_ok-is_ready.was ∙ ap answered c.if-not-is_ready.false);
 }
 

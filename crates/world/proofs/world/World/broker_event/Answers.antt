@@ -12,7 +12,7 @@ returns-in_err-acts c =
     record {
       leads = λ w reached stands.
           rw (p.1, p.2) (leads_failed c.args.scenario.now.setup c.args.self.now c.acts.new.self _ c.in_err-acts.field-0.0 (c.in_err-acts.ensures.acts w reached stands));
-      nodes = c.acts.ensures.at.nodes;
+      brokers = c.acts.ensures.at.brokers;
       err = rw p.1 c.in_err-acts.ensures.err;
     }
 
@@ -28,6 +28,6 @@ returns c =
     record {
       leads = λ w reached stands.
           leads_idled s old mid new _ _ r c.if-branch.false (c.in_ok-acts.ensures.acts w reached stands) c.idles.ensures.ok c.idles.ensures.within c.idles.ensures.large;
-      nodes = nodes_idle s mid new r c.acts.ensures.at c.idles.ensures.ok c.idles.ensures.err;
+      brokers = nodes_idle s mid new r c.acts.ensures.at c.idles.ensures.ok c.idles.ensures.err;
       err = same_err old mid new r (c.acts.ensures.idle (c.in_ok-acts.was ∙ ap answered c.if-branch.false)) c.idles.ensures.err;
     }

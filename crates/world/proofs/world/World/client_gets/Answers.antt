@@ -4,7 +4,7 @@ use Rattle.std.proofs.lemmas.Result.{err_from_is_err_and}
 use Rattle.geo_base.specs.Client.{Client}
 use Rattle.links.specs.declared.name.LinkName.TheVariants as name
 use Rattle.world.specs.ClientSteps.{client_in, no_client}
-use Rattle.world.specs.World.{AreNodes, WorldBook}
+use Rattle.world.specs.World.{AreNodes, WorldView}
 use Rattle.world.proofs.ClientEvents.{can_count, client_below}
 use Rattle.world.proofs.Getting.{got_clock, got_events, got_idle, got_stamp, leads_get, leads_large, nodes_got, nodes_still}
 use Rattle.world.proofs.Leading.{wants}
@@ -27,7 +27,7 @@ pub returns-clause-leads : goal.returns-clause-leads
 returns-clause-leads c w reached stands =
     let s = c.args.scenario.now.setup in let old = c.args.self.now in let n : ℕ = c.args.client in
     let lt : n < length old.clients = client_below s old n c.requires.at c.requires.client in
-    let clients : c.self.inside.clients.items ≡ old.clients = ap (λ (b : WorldBook). b.clients) c.self.view_is in
+    let clients : c.self.inside.clients.items ≡ old.clients = ap (λ (b : WorldView). b.clients) c.self.view_is in
     let within : n < length c.self.inside.clients.items = subst (λ (ms : List Client). n < length ms) (sym clients) lt in
     let here : c.index.result.now ≡ client_in old.clients n =
     c.index.ensures ∙ get_or_default c.self.inside.clients.items n _ no_client within ∙ ap (λ (ms : List Client). client_in ms n) clients in
@@ -43,7 +43,7 @@ pub index-requires : goal.index-requires
 index-requires c =
     let old = c.args.self.now in let n : ℕ = c.args.client in
     let lt : n < length old.clients = client_below c.args.scenario.now.setup old n c.requires.at c.requires.client in
-    let clients : c.self.inside.clients.items ≡ old.clients = ap (λ (b : WorldBook). b.clients) c.self.view_is in
+    let clients : c.self.inside.clients.items ≡ old.clients = ap (λ (b : WorldView). b.clients) c.self.view_is in
     let within : n < length c.self.inside.clients.items = subst (λ (ms : List Client). n < length ms) (sym clients) lt in
     omega (arith, within, c.self.inside.clients.ok.0)
 
@@ -59,17 +59,17 @@ counts_get-requires-clause-events c = got_events c.args.scenario.now.setup c.arg
 pub counts_get-requires-clause-idle : goal.counts_get-requires-clause-idle
 counts_get-requires-clause-idle c = got_idle c.args.scenario.now.setup c.args.self.now _ _ _ c.args.client _ _ c.requires.at c.in_ok-took.ensures.ok
 
-pub returns-in_err-one_more-clause-nodes : goal.returns-in_err-one_more-clause-nodes
-returns-in_err-one_more-clause-nodes c = nodes_still c.args.scenario.now.setup c.args.self.now c.requires.at
+pub returns-in_err-one_more-clause-brokers : goal.returns-in_err-one_more-clause-brokers
+returns-in_err-one_more-clause-brokers c = nodes_still c.args.scenario.now.setup c.args.self.now c.requires.at
 
 pub returns-in_err-took-clause-leads : goal.returns-in_err-took-clause-leads
 returns-in_err-took-clause-leads c w reached stands =
     let p = err_from_is_err_and c.from_residual-in_err-took.result c.from_residual-in_err-took.ensures.1 in
     rw (p.1, p.2) (wants c.args.scenario.now.setup c.args.self.now c.get_at.new.self _)
 
-pub returns-in_err-took-clause-nodes : goal.returns-in_err-took-clause-nodes
-returns-in_err-took-clause-nodes c =
-    subst (λ (b : WorldBook). AreNodes c.args.scenario.now.setup b.nodes) (sym c.in_err-took.ensures.err) (nodes_still c.args.scenario.now.setup c.args.self.now c.requires.at)
+pub returns-in_err-took-clause-brokers : goal.returns-in_err-took-clause-brokers
+returns-in_err-took-clause-brokers c =
+    subst (λ (b : WorldView). AreNodes c.args.scenario.now.setup b.brokers) (sym c.in_err-took.ensures.err) (nodes_still c.args.scenario.now.setup c.args.self.now c.requires.at)
 
-pub returns-clause-nodes : goal.returns-clause-nodes
-returns-clause-nodes c = nodes_got c.args.scenario.now.setup c.args.self.now c.get_at.new.self c.counts_get.new.self _ _ c.args.client _ _ c.requires.at c.in_ok-took.ensures.ok c.counts_get.ensures
+pub returns-clause-brokers : goal.returns-clause-brokers
+returns-clause-brokers c = nodes_got c.args.scenario.now.setup c.args.self.now c.get_at.new.self c.counts_get.new.self _ _ c.args.client _ _ c.requires.at c.in_ok-took.ensures.ok c.counts_get.ensures

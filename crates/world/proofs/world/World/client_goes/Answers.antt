@@ -9,7 +9,7 @@ use Rattle.geo_base.specs.Client.{Client}
 use Rattle.geo_base.specs.Going.{go}
 use Rattle.geo_base.specs.Setup.{Declared, Setup, declared_at}
 use Rattle.world.specs.ClientSteps.{client_in, no_client}
-use Rattle.world.specs.World.{WorldBook}
+use Rattle.world.specs.World.{WorldView}
 use Rattle.world.proofs.ClientEvents.{can_connect, client_below, clock_below, leads_go, nodes_done, stamp_fits}
 use Rattle.world.proofs.Leading.{wants}
 use Rattle.world.proofs.Places.{at_within}
@@ -19,7 +19,7 @@ pub index-requires : goal.index-requires
 index-requires c =
     let old = c.args.self.now in let n : ℕ = c.args.client in
     let lt : n < length old.clients = client_below c.args.scenario.now.setup old n c.requires.at c.requires.client in
-    let clients : c.self.inside.clients.items ≡ old.clients = ap (λ (b : WorldBook). b.clients) c.self.view_is in
+    let clients : c.self.inside.clients.items ≡ old.clients = ap (λ (b : WorldView). b.clients) c.self.view_is in
     let within : n < length c.self.inside.clients.items = subst (λ (ms : List Client). n < length ms) (sym clients) lt in
     omega (arith, within, c.self.inside.clients.ok.0)
 
@@ -27,7 +27,7 @@ pub prepare_go-requires : goal.prepare_go-requires
 prepare_go-requires c =
     let old = c.args.self.now in let n : ℕ = c.args.client in
     let lt : n < length old.clients = client_below c.args.scenario.now.setup old n c.requires.at c.requires.client in
-    let clients : c.self.inside.clients.items ≡ old.clients = ap (λ (b : WorldBook). b.clients) c.self.view_is in
+    let clients : c.self.inside.clients.items ≡ old.clients = ap (λ (b : WorldView). b.clients) c.self.view_is in
     let within : n < length c.self.inside.clients.items = subst (λ (ms : List Client). n < length ms) (sym clients) lt in
     let here : c.index.result.now ≡ client_in old.clients n =
     c.index.ensures ∙ get_or_default c.self.inside.clients.items n _ no_client within ∙ ap (λ (ms : List Client). client_in ms n) clients in
@@ -39,7 +39,7 @@ returns-in_err-prepared c =
     let p = err_from_is_err_and c.from_residual.result c.from_residual.ensures.1 in
     record {
       leads = λ w reached stands. rw (p.1, p.2) (wants c.args.scenario.now.setup old old _);
-      nodes = c.requires.at.nodes;
+      brokers = c.requires.at.brokers;
       err = rw p.1 refl;
     }
 
@@ -47,7 +47,7 @@ pub client_does-requires : goal.client_does-requires
 client_does-requires c =
     let old = c.args.self.now in let n : ℕ = c.args.client in let s = c.args.scenario.now.setup in
     let lt : n < length old.clients = client_below s old n c.requires.at c.requires.client in
-    let clients : c.self.inside.clients.items ≡ old.clients = ap (λ (b : WorldBook). b.clients) c.self.view_is in
+    let clients : c.self.inside.clients.items ≡ old.clients = ap (λ (b : WorldView). b.clients) c.self.view_is in
     let within : n < length c.self.inside.clients.items = subst (λ (ms : List Client). n < length ms) (sym clients) lt in
     let here : c.index.result.now ≡ client_in old.clients n =
     c.index.ensures ∙ get_or_default c.self.inside.clients.items n _ no_client within ∙ ap (λ (ms : List Client). client_in ms n) clients in
@@ -63,7 +63,7 @@ pub returns : goal.returns
 returns c =
     let old = c.args.self.now in let n : ℕ = c.args.client in let s = c.args.scenario.now.setup in let p = c.in_ok-prepared.prepared in
     let lt : n < length old.clients = client_below s old n c.requires.at c.requires.client in
-    let clients : c.self.inside.clients.items ≡ old.clients = ap (λ (b : WorldBook). b.clients) c.self.view_is in
+    let clients : c.self.inside.clients.items ≡ old.clients = ap (λ (b : WorldView). b.clients) c.self.view_is in
     let within : n < length c.self.inside.clients.items = subst (λ (ms : List Client). n < length ms) (sym clients) lt in
     let here : c.index.result.now ≡ client_in old.clients n =
     c.index.ensures ∙ get_or_default c.self.inside.clients.items n _ no_client within ∙ ap (λ (ms : List Client). client_in ms n) clients in
@@ -75,6 +75,6 @@ returns c =
     record {
       leads = λ w reached stands.
           leads_go s old c.client_does.new.self w n p c.client_does.result c.requires.at c.requires.client reached stands prepared c.client_does.ensures.done;
-      nodes = nodes_done s old c.client_does.new.self n p c.client_does.result c.requires.at c.client_does.ensures.done c.client_does.ensures.err;
+      brokers = nodes_done s old c.client_does.new.self n p c.client_does.result c.requires.at c.client_does.ensures.done c.client_does.ensures.err;
       err = c.client_does.ensures.err;
     }

@@ -6,16 +6,16 @@ use Rattle.geo_base.specs.Client.{Client}
 use Rattle.links.specs.declared.name.Node.TheVariants as wire_node
 use Rattle.links.specs.Queues.{bytes_of, delivered}
 use Rattle.world.specs.ClientSteps.{client_in}
-use Rattle.world.specs.World.{WorldBook}
+use Rattle.world.specs.World.{WorldView}
 use Rattle.world.proofs.Finishing.{client_finished}
 use Rattle.world.proofs.world.World.client_sends.Goals as goal
 
 pub client_commits-requires : goal.client_commits-requires
 client_commits-requires c =
     let old = c.args.self.now in let mid = c.deliver.new.self in let n : ℕ = c.args.client in let is = c.in-Ok.ensures.sent in
-    let clients : mid.clients ≡ old.clients = ap (λ (b : WorldBook). b.clients) is in
-    let clocks : mid.client_clocks ≡ old.client_clocks = ap (λ (b : WorldBook). b.client_clocks) is in
-    let events : mid.events ≡ old.events = ap (λ (b : WorldBook). b.events) is in
+    let clients : mid.clients ≡ old.clients = ap (λ (b : WorldView). b.clients) is in
+    let clocks : mid.client_clocks ≡ old.client_clocks = ap (λ (b : WorldView). b.client_clocks) is in
+    let events : mid.events ≡ old.events = ap (λ (b : WorldView). b.events) is in
     let fits = subst (λ (ks : List Client). ClientFits c.args.prepared.change (client_in ks n)) (sym clients) c.requires.fits in
     let few : old.events + old.idle ≤ 2000000 = c.requires.within.few in
     record {

@@ -1,5 +1,5 @@
 use Rattle.std.proofs.Common.{ap}
-use Rattle.world.specs.declared.place.Place.{Place}
+use Rattle.world.specs.declared.broker_ref.BrokerRef.{BrokerRef}
 use Rattle.world.proofs.Acting.{acts_done, acts_past, at_done, half_ready, halves, later_done, later_same, number_is}
 use Rattle.world.proofs.Leading.{still_same}
 use Rattle.world.proofs.Places.{at_same, cluster_below, mid_below, mid_clock, mid_stamp, mid_within, topic_below}
@@ -8,33 +8,33 @@ use Rattle.world.proofs.world.World.finish.Goals as goal
 
 pub node_number-number-requires-clause-topic : goal.node_number-number-requires-clause-topic
 node_number-number-requires-clause-topic c =
-    topic_below c.args.scenario.now.setup c.args.self.now c.args.event.now c.args.place.topic c.requires.at c.requires.broker c.requires.scripted (ap (λ (a : Place). a.topic) c.requires.place)
+    topic_below c.args.scenario.now.setup c.args.self.now c.args.event.now c.args.broker_ref.topic c.requires.at c.requires.broker c.requires.scripted (ap (λ (a : BrokerRef). a.topic) c.requires.broker_ref)
 
 pub node_number-number-requires-clause-cluster : goal.node_number-number-requires-clause-cluster
 node_number-number-requires-clause-cluster c =
-    cluster_below c.args.scenario.now.setup c.args.event.now c.args.place.cluster c.requires.broker c.requires.scripted (ap (λ (a : Place). a.cluster) c.requires.place)
+    cluster_below c.args.scenario.now.setup c.args.event.now c.args.broker_ref.cluster c.requires.broker c.requires.scripted (ap (λ (a : BrokerRef). a.cluster) c.requires.broker_ref)
 
 pub finish_at-requires : goal.finish_at-requires
 finish_at-requires c =
     let s = c.args.scenario.now.setup in let b = c.args.self.now in let e = c.args.event.now in let n = c.node_number-number.result in let same = same_itself b in
-    let is = number_is s e c.args.place n c.requires.place c.node_number-number.ensures in
+    let is = number_is s e c.args.broker_ref n c.requires.broker_ref c.node_number-number.ensures in
     record {
       node = mid_below s b b e n c.requires.at same c.requires.broker c.requires.scripted is;
       clock = mid_clock s b b e n c.requires.at same c.requires.broker c.requires.scripted is;
-      ready = half_ready s b e c.args.place n c.args.plan.now
-          (halves s b e c.args.place n c.args.plan.now c.requires.at c.requires.broker c.requires.scripted c.requires.place c.node_number-number.ensures c.requires.ready);
+      ready = half_ready s b e c.args.broker_ref n c.args.plan.now
+          (halves s b e c.args.broker_ref n c.args.plan.now c.requires.at c.requires.broker c.requires.scripted c.requires.broker_ref c.node_number-number.ensures c.requires.ready);
       within = mid_within s b b c.requires.at same;
-      stamp = mid_stamp s b b n c.args.place.takes c.requires.at same;
+      stamp = mid_stamp s b b n c.args.broker_ref.takes c.requires.at same;
     }
 
 pub returns-in-Err : goal.returns-in-Err
 returns-in-Err c =
     let s = c.args.scenario.now.setup in let b = c.args.self.now in let new = c.finish_at.new.self in let e = c.args.event.now in
-    let place = c.args.place in let n = c.node_number-number.result in let p = c.args.plan.now in
-    let half = halves s b e place n p c.requires.at c.requires.broker c.requires.scripted c.requires.place c.node_number-number.ensures c.requires.ready in
+    let broker_ref = c.args.broker_ref in let n = c.node_number-number.result in let p = c.args.plan.now in
+    let half = halves s b e broker_ref n p c.requires.at c.requires.broker c.requires.scripted c.requires.broker_ref c.node_number-number.ensures c.requires.ready in
     let still = still_same b b new (same_itself b) c.in-Err.ensures.err in
     record {
-      acts = λ w reached stands. acts_past s b new w e place n p c.in-Err.fault half c.in-Err.ensures.large reached stands;
+      acts = λ w reached stands. acts_past s b new w e broker_ref n p c.in-Err.fault half c.in-Err.ensures.large reached stands;
       at = at_same s b new c.requires.at still;
       later = later_same b new still;
       err = still;
@@ -44,13 +44,13 @@ returns-in-Err c =
 pub returns-in-Ok : goal.returns-in-Ok
 returns-in-Ok c =
     let s = c.args.scenario.now.setup in let b = c.args.self.now in let new = c.finish_at.new.self in let e = c.args.event.now in
-    let place = c.args.place in let n = c.node_number-number.result in let p = c.args.plan.now in
-    let half = halves s b e place n p c.requires.at c.requires.broker c.requires.scripted c.requires.place c.node_number-number.ensures c.requires.ready in
+    let broker_ref = c.args.broker_ref in let n = c.node_number-number.result in let p = c.args.plan.now in
+    let half = halves s b e broker_ref n p c.requires.at c.requires.broker c.requires.scripted c.requires.broker_ref c.node_number-number.ensures c.requires.ready in
     let f = c.in-Ok.ensures in
     record {
-      acts = λ w reached stands. acts_done s b new w e place n p half f.ok f.within reached stands;
-      at = at_done s b new e place n p half f.ok f.within;
-      later = later_done b new place n p f.ok;
+      acts = λ w reached stands. acts_done s b new w e broker_ref n p half f.ok f.within reached stands;
+      at = at_done s b new e broker_ref n p half f.ok f.within;
+      later = later_done b new broker_ref n p f.ok;
       err = tt;
       empty = f.empty;
     }

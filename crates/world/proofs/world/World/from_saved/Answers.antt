@@ -10,7 +10,7 @@ returns-in-Ok-clause-at c =
 pub returns-in-Ok-clause-reached : goal.returns-in-Ok-clause-reached
 returns-in-Ok-clause-reached c =
     let world = c.in-Ok.ensures in
-    resumed_reached (state_of c.args.saved) c.in-Ok.world.nodes world.known c.requires.known world.resumed.nodes
+    resumed_reached (state_of c.args.saved) c.in-Ok.world.brokers world.known c.requires.known world.resumed.brokers
 
 pub returns-in-Ok-clause-stands : goal.returns-in-Ok-clause-stands
 returns-in-Ok-clause-stands c =

@@ -6,30 +6,30 @@ use Rattle.broker_plans.specs.Prepared.{IsPrepared}
 use Rattle.geo_base.specs.declared.packet.Packet.{Packet}
 use Rattle.broker.specs.Events.{plan_at_node}
 use Rattle.broker.specs.Input.{StandsForInput}
-use Rattle.broker.specs.Node.{BrokerBook, SameNode}
+use Rattle.broker.specs.Node.{BrokerView, SameNode}
 use Rattle.links.specs.Queues.{WireLinks, packet_on}
-use Rattle.world.specs.World.{WorldBook, no_node, node_at}
+use Rattle.world.specs.World.{WorldView, no_node, node_at}
 use Rattle.world.proofs.Nodes.{prepares, same_world}
 use Rattle.world.proofs.world.World.prepare_at.Goals as goal
 
 pub returns-clause-same : goal.returns-clause-same
 returns-clause-same c =
     let old = c.args.self.now in let n : ℕ = c.args.number in let v = c.prepare.new.self in
-    let nodes : c.self.inside.nodes.items ≡ old.nodes = ap (λ (b : WorldBook). b.nodes) c.self.view_is in
-    let within : n < length c.self.inside.nodes.items = subst (λ (vs : List BrokerBook). n < length vs) (sym nodes) c.requires.node in
-    let here : c.index_mut.result.now ≡ node_at old.nodes n =
-    c.index_mut.ensures.value ∙ get_or_default c.self.inside.nodes.items n _ no_node within ∙ ap (λ (vs : List BrokerBook). node_at vs n) nodes in
-    same_world old _ n v (subst (λ (u : BrokerBook). SameNode u v) here c.prepare.ensures.node) (c.prepare.ensures.broker ∙ ap (λ (u : BrokerBook). u.broker) here)
-    (ap (λ (b : WorldBook). record b { nodes = slice_set b.nodes n v }) c.self.view_is)
+    let brokers : c.self.inside.brokers.items ≡ old.brokers = ap (λ (b : WorldView). b.brokers) c.self.view_is in
+    let within : n < length c.self.inside.brokers.items = subst (λ (vs : List BrokerView). n < length vs) (sym brokers) c.requires.node in
+    let here : c.index_mut.result.now ≡ node_at old.brokers n =
+    c.index_mut.ensures.value ∙ get_or_default c.self.inside.brokers.items n _ no_node within ∙ ap (λ (vs : List BrokerView). node_at vs n) brokers in
+    same_world old _ n v (subst (λ (u : BrokerView). SameNode u v) here c.prepare.ensures.node) (c.prepare.ensures.broker ∙ ap (λ (u : BrokerView). u.broker) here)
+    (ap (λ (b : WorldView). record b { brokers = slice_set b.brokers n v }) c.self.view_is)
 
 pub returns-clause-prepared : goal.returns-clause-prepared
 returns-clause-prepared c =
     let old = c.args.self.now in let n : ℕ = c.args.number in let i = option_copied c.next.result in
-    let nodes : c.self.inside.nodes.items ≡ old.nodes = ap (λ (b : WorldBook). b.nodes) c.self.view_is in
-    let within : n < length c.self.inside.nodes.items = subst (λ (vs : List BrokerBook). n < length vs) (sym nodes) c.requires.node in
-    let here : c.index_mut.result.now ≡ node_at old.nodes n =
-    c.index_mut.ensures.value ∙ get_or_default c.self.inside.nodes.items n _ no_node within ∙ ap (λ (vs : List BrokerBook). node_at vs n) nodes in
-    let links : c.self.inside.links ≡ old.links = ap (λ (b : WorldBook). b.links) c.self.view_is in
+    let brokers : c.self.inside.brokers.items ≡ old.brokers = ap (λ (b : WorldView). b.brokers) c.self.view_is in
+    let within : n < length c.self.inside.brokers.items = subst (λ (vs : List BrokerView). n < length vs) (sym brokers) c.requires.node in
+    let here : c.index_mut.result.now ≡ node_at old.brokers n =
+    c.index_mut.ensures.value ∙ get_or_default c.self.inside.brokers.items n _ no_node within ∙ ap (λ (vs : List BrokerView). node_at vs n) brokers in
+    let links : c.self.inside.links ≡ old.links = ap (λ (b : WorldView). b.links) c.self.view_is in
     prepares old n c.args.takes c.args.event.now c.prepare.new.plan c.prepare.result i (c.next.ensures ∙ ap (λ (l : WireLinks). packet_on l c.args.takes) links)
-    (subst (λ (u : BrokerBook). (v : Option Packet) → StandsForInput u.site.clusters i v → OnOk c.prepare.result (IsPrepared u.site u.broker (plan_at_node u c.args.event.now v) c.prepare.new.plan))
+    (subst (λ (u : BrokerView). (v : Option Packet) → StandsForInput u.site.clusters i v → OnOk c.prepare.result (IsPrepared u.site u.broker (plan_at_node u c.args.event.now v) c.prepare.new.plan))
     here c.prepare.ensures.prepared)

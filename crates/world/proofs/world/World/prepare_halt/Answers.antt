@@ -1,5 +1,5 @@
 use Rattle.std.proofs.Common.{ap}
-use Rattle.world.specs.declared.place.Place.{Place}
+use Rattle.world.specs.declared.broker_ref.BrokerRef.{BrokerRef}
 use Rattle.world.proofs.Acting.{number_is}
 use Rattle.world.proofs.Places.{at_same, cluster_below, number_below, number_of, number_rises, topic_below}
 use Rattle.world.proofs.Prepared.{foreseen_halt}
@@ -7,16 +7,16 @@ use Rattle.world.proofs.world.World.prepare_halt.Goals as goal
 
 pub node_number-number-requires-clause-topic : goal.node_number-number-requires-clause-topic
 node_number-number-requires-clause-topic c =
-    topic_below c.args.scenario.now.setup c.args.self.now c.args.event.now c.args.place.topic c.requires.at c.requires.broker c.requires.scripted (ap (λ (a : Place). a.topic) c.requires.place)
+    topic_below c.args.scenario.now.setup c.args.self.now c.args.event.now c.args.broker_ref.topic c.requires.at c.requires.broker c.requires.scripted (ap (λ (a : BrokerRef). a.topic) c.requires.broker_ref)
 
 pub node_number-number-requires-clause-cluster : goal.node_number-number-requires-clause-cluster
 node_number-number-requires-clause-cluster c =
-    cluster_below c.args.scenario.now.setup c.args.event.now c.args.place.cluster c.requires.broker c.requires.scripted (ap (λ (a : Place). a.cluster) c.requires.place)
+    cluster_below c.args.scenario.now.setup c.args.event.now c.args.broker_ref.cluster c.requires.broker c.requires.scripted (ap (λ (a : BrokerRef). a.cluster) c.requires.broker_ref)
 
 pub prepare_at-requires : goal.prepare_at-requires
 prepare_at-requires c =
     let s = c.args.scenario.now.setup in let b = c.args.self.now in let e = c.args.event.now in let n = c.node_number-number.result in
-    let is = number_is s e c.args.place n c.requires.place c.node_number-number.ensures in
+    let is = number_is s e c.args.broker_ref n c.requires.broker_ref c.node_number-number.ensures in
     record {
       node = number_below s b e n c.requires.at c.requires.broker c.requires.scripted is;
       of = number_of s b e n c.requires.at c.requires.broker c.requires.scripted is;
@@ -27,8 +27,8 @@ prepare_at-requires c =
 pub returns-clause-foreseen : goal.returns-clause-foreseen
 returns-clause-foreseen c =
     let s = c.args.scenario.now.setup in let old = c.args.self.now in let mid = c.prepare_at.new.self in let e = c.args.event.now in
-    foreseen_halt s old mid e c.args.place c.node_number-number.result c.prepare_at.new.plan c.prepare_at.result c.requires.at c.prepare_at.ensures.same c.requires.broker c.requires.scripted
-    c.requires.place c.node_number-number.ensures c.prepare_at.ensures.prepared
+    foreseen_halt s old mid e c.args.broker_ref c.node_number-number.result c.prepare_at.new.plan c.prepare_at.result c.requires.at c.prepare_at.ensures.same c.requires.broker c.requires.scripted
+    c.requires.broker_ref c.node_number-number.ensures c.prepare_at.ensures.prepared
 
 pub returns-clause-at : goal.returns-clause-at
 returns-clause-at c = at_same c.args.scenario.now.setup c.args.self.now c.prepare_at.new.self c.requires.at c.prepare_at.ensures.same

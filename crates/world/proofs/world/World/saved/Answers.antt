@@ -11,9 +11,9 @@ returns-in-Err-clause-saves c = λ w stands.
 pub returns-in-Ok-clause-saves : goal.returns-in-Ok-clause-saves
 returns-in-Ok-clause-saves c = λ w stands.
     let parts = c.in-Ok.ensures in
-    saves_state c.args.scenario c.args.self.now w _ stands c.without_steps.ensures parts.counts parts.nodes parts.clients parts.within
+    saves_state c.args.scenario c.args.self.now w _ stands c.without_steps.ensures parts.counts parts.brokers parts.clients parts.within
 
 pub returns-in-Ok-clause-can : goal.returns-in-Ok-clause-can
 returns-in-Ok-clause-can c =
     let b = c.args.self.now in let parts = c.in-Ok in
-    can_hold (brokers_of b.nodes) (map broker_of parts.parts.nodes.items) parts.ensures.nodes parts.ensures.rests (have_indexes c.args.scenario.setup b c.requires.at)
+    can_hold (brokers_of b.brokers) (map broker_of parts.parts.brokers.items) parts.ensures.brokers parts.ensures.rests (have_indexes c.args.scenario.setup b c.requires.at)

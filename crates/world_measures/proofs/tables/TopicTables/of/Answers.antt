@@ -1,6 +1,6 @@
 use Rattle.std.proofs.Common.{rules, ◌≡◌, ◌<◌, List, [], ◌∷◌, ◌++◌, ap, length, subst, sym, ◌∙◌}
 use Rattle.std.specs.Prelude.{slice_index_or}
-use Rattle.broker.specs.Node.{BrokerBook}
+use Rattle.broker.specs.Node.{BrokerView}
 use Rattle.geo_base.specs.declared.entry.Entry.{Entry}
 use Rattle.geo_base.specs.Broker.{Broker}
 use Rattle.geo_base.specs.World.{topic_at}
@@ -16,7 +16,7 @@ loop-cluster-preserved c =
       many = search rules;
       each = λ w same y lt.
           let within : x < length s.clusters = search rules in
-          let here = ap (λ (b : BrokerBook). b.broker) c.topic-broker.ensures ∙ broker_there s c.args.world.now c.requires.at t x c.requires.topic within w same in
+          let here = ap (λ (b : BrokerView). b.broker) c.topic-broker.ensures ∙ broker_there s c.args.world.now c.requires.at t x c.requires.topic within w same in
           let entries = c.store.ensures.entries ∙ ap (λ (b : Broker). b.entries) here in
           let pushed : c.push.new.self.items ≡ c.loop-cluster.tables.items ++ c.in_ok-table.table ∷ [] = search rules in
           subst (λ (rows : List (List Row)). Tells (slice_index_or rows y []) (topic_at s w t y).entries) (sym pushed)

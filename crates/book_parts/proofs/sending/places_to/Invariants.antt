@@ -1,6 +1,0 @@
-use Rattle.std.proofs.Common.{◌≡◌, ◌+◌, drop}
-use Rattle.book_parts.specs.Sending.{places_to}
-use Rattle.book_parts.proofs.sending.places_to.Given as goal
-
-abbrev pub invariant-loop-addressed : goal.invariant-loop-addressed
-invariant-loop-addressed l = l.places + places_to l.to (drop l.addressed-index l.parcels) ≡ places_to l.to l.parcels

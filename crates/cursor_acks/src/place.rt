@@ -1,8 +1,0 @@
-//! Where a range stands.
-
-/// A block, and how many of its ranges stand before.
-#[derive(Clone, Copy, Drop, PartialEq, Eq)]
-pub(crate) struct Place {
-    pub(crate) block: usize,
-    pub(crate) offset: usize,
-}

@@ -1,5 +1,0 @@
-use Rattle.failover_laws.proofs.Passing.{passes_between}
-use Rattle.failover_laws.proofs.again.law_passes.Goals as goal
-
-pub returns : goal.returns
-returns c = record { between = passes_between }

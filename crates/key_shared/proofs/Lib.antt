@@ -1,3 +1,0 @@
-pub mod Consumers
-pub mod Dues
-pub mod Keeping

@@ -1,5 +1,0 @@
-use Rattle.script_inputs.proofs.InRange.{is_scenario}
-use Rattle.script_inputs.proofs.run.generate.Goals as goal
-
-pub returns-clause-scenario : goal.returns-clause-scenario
-returns-clause-scenario c = is_scenario _ c.args.number c.in_ok-parts.ensures

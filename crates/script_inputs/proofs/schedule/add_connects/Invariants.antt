@@ -1,6 +1,0 @@
-use Rattle.std.proofs.Common.{◌≡◌, ◌++◌}
-use Rattle.script_inputs.specs.Schedule.{connects}
-use Rattle.script_inputs.proofs.schedule.add_connects.Given as goal
-
-abbrev pub invariant-loop-client : goal.invariant-loop-client
-invariant-loop-client l = l.steps ≡ l.initial.steps ++ connects l.client

@@ -1,6 +1,0 @@
-use Rattle.std.proofs.Common.{◌≡◌, ◌++◌}
-use Rattle.script_inputs.specs.Schedule.{finishes}
-use Rattle.script_inputs.proofs.schedule.add_finishes.Given as goal
-
-abbrev pub invariant-loop-client : goal.invariant-loop-client
-invariant-loop-client l = l.steps ≡ l.initial.steps ++ finishes l.client

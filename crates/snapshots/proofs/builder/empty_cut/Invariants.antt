@@ -1,6 +1,0 @@
-use Rattle.std.proofs.Common.{◌≡◌, replicate}
-use Rattle.std.specs.Prelude.{None}
-use Rattle.snapshots.proofs.builder.empty_cut.Given as goal
-
-abbrev pub invariant-loop-cluster : goal.invariant-loop-cluster
-invariant-loop-cluster l = l.remote ≡ replicate l._cluster None

@@ -1,6 +1,0 @@
-use Rattle.std.proofs.Common.{◌≡◌, drop}
-use Rattle.geo_base.specs.Cursor.{has}
-use Rattle.snapshots.proofs.builder.was_heard.Given as goal
-
-abbrev pub invariant-loop-other : goal.invariant-loop-other
-invariant-loop-other l = has l.heard l.cluster ≡ has (drop l.other-index l.heard) l.cluster

@@ -1,6 +1,0 @@
-use Rattle.std.proofs.Common.{◌≡◌, ◌++◌, drop}
-use Rattle.geo_base.specs.Builder.{named, named_from}
-use Rattle.sub_update.proofs.naming.named_positions.Given as goal
-
-abbrev pub invariant-loop-cluster : goal.invariant-loop-cluster
-invariant-loop-cluster l = l.named ++ named_from l.cluster (drop l.cluster l.remote) ≡ named_from 0 l.remote

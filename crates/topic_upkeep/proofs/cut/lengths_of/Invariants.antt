@@ -1,6 +1,0 @@
-use Rattle.std.proofs.Common.{◌≡◌, map, take}
-use Rattle.topic_upkeep.specs.Tiered.{part_length}
-use Rattle.topic_upkeep.proofs.cut.lengths_of.Given as goal
-
-abbrev pub invariant-loop-part : goal.invariant-loop-part
-invariant-loop-part l = l.lengths.items ≡ map part_length (take l.part-index l.parts)

@@ -1,4 +1,0 @@
-use Rattle.topic_upkeep.proofs.tiered.TieredLedger.read_away.Given as goal
-
-abbrev pub ghost-fetch : goal.ghost-fetch
-ghost-fetch g a = g.entries

@@ -1,5 +1,0 @@
-use Rattle.world_kept.proofs.Keeping.{broker_done, broker_halted, broker_idle}
-use Rattle.world_kept.proofs.laws.law_brokers.Goals as goal
-
-pub returns : goal.returns
-returns c = record { done = broker_done; idle = broker_idle; halted = broker_halted }
