@@ -1,5 +1,5 @@
 pub mod Order
 pub mod Drawing
 pub mod Tries
-pub mod Room
 pub mod Turns
+pub mod Room

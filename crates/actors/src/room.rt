@@ -1,8 +1,8 @@
 //! Whether there is room for what a client sends as it connects, and its turn where there is none.
-ghost use Rattle.std.specs.Prelude.{◌≡◌, ◌≤◌, IsTrue};
+ghost use Rattle.std.specs.Prelude.{◌≡◌, ◌≤◌, IsFalse, IsTrue, true};
 ghost use Rattle.actors.specs.Drawing.{Drawing};
-ghost use Rattle.actors.specs.Room.{IsTooFull, connect_packets, connecting, connects_now, one_if, unconnected_tries};
-ghost use Rattle.actors.specs.Turns.{Walks, waited_after};
+ghost use Rattle.actors.specs.Room.{HasPlaces, IsTooFull, IsTurnWithRoom, IsUnconnected, connect_packets, connecting, connects_now, one_if, unconnected_tries};
+ghost use Rattle.actors.specs.Turns.{Walks};
 ghost use Rattle.geo_base.specs.declared.packet.Peer.TheVariants as peer;
 ghost use Rattle.node_log.specs.Acts.{SameLog};
 
@@ -23,12 +23,30 @@ pub(crate) struct Reconnection {
 }
 
 impl Actor {
+    /// A turn at a log, as `turn` takes it; but where the actor is a client's that is to connect, and a look finds fewer places at the
+    /// end to its broker than its packets take, each at least so many as the caller knows that a packet takes there, the turn leaves
+    /// its connection as it is. False exactly where nothing was done. An `Err` is want of memory; then no event was done.
+    pub fn turn_with_room<E: End>(
+        &mut self,
+        alloc: Global,
+        log: &mut NodeLog<E>,
+        places: usize,
+    ) -> Result<bool, Memory>
+        ensures { IsTurnWithRoom E.sent E.taken E.shown E.free E.looks E.fits places self.old log.old self.new log.new result }
+    {
+        if self.waits_for_room(log, places) {
+            return self.turn_unconnected(alloc, log);
+        }
+        self.turn(alloc, log)
+    }
+
     /// Whether the actor is a client's that is to connect in its next turn at the log, and a look finds fewer places at the end to
     /// its broker than its packets take, each at least so many as the caller knows that a packet takes there. To write all these
     /// would be in vain. State, history, clock and what was sent and taken are as they were.
-    pub fn waits_for_room<E: End>(&self, log: &mut NodeLog<E>, places: usize) -> bool
-        ensures due { IsTrue result → IsTrue (connects_now self.now self.now.role log.old) }
+    fn waits_for_room<E: End>(&self, log: &mut NodeLog<E>, places: usize) -> bool
+        ensures due { IsTrue result → connects_now self.now self.now.role log.old ≡ true }
         ensures full { IsTrue result → IsTooFull E.free E.looks places log.old log.new }
+        ensures enough { IsFalse result → connects_now self.now self.now.role log.old ≡ true → HasPlaces E.free places log.old log.new }
         ensures same { SameLog E.sent E.taken log.old log.new }
     {
         if !self.connects_now(log) {
@@ -53,14 +71,12 @@ impl Actor {
     /// A turn of a client's actor that leaves its connection as it is: what came for it is tried, and its next line. Any other actor
     /// does nothing in it. False exactly where nothing was done. An `Err` is want of memory; then no event was done.
     #[tactic(auto, using(crate::proofs::Waiting::waited_is))]
-    pub fn turn_unconnected<E: End>(
+    fn turn_unconnected<E: End>(
         &mut self,
         alloc: Global,
         log: &mut NodeLog<E>,
     ) -> Result<bool, Memory>
-        ensures walk { Walks E.sent E.taken E.shown E.free E.looks (unconnected_tries self.old.role self.old.drawing) self.old.drawing log.old log.new self.old.drawing result }
-        ensures waited { self.new.waited ≡ waited_after self.old log.new result }
-        ensures rest { self.new ≡ record self.old { waited = self.new.waited } }
+        ensures { IsUnconnected E.sent E.taken E.shown E.free E.looks E.fits self.old log.old self.new log.new result }
     {
         let is_done = try_unconnected(self.role, alloc, log)?;
         let is_waiting = !is_done && has_waited(self.role, log);
@@ -71,7 +87,7 @@ impl Actor {
 
 /// What came for a client, and its next line.
 fn try_unconnected<E: End>(role: Role, alloc: Global, log: &mut NodeLog<E>) -> Result<bool, Memory>
-    ensures { (d : Drawing) → Walks E.sent E.taken E.shown E.free E.looks (unconnected_tries role d) d log.old log.new d result }
+    ensures { (d : Drawing) → Walks E.sent E.taken E.shown E.free E.looks E.fits (unconnected_tries role d) d log.old log.new d result }
 {
     match role {
         Role::Client { client } => run_client(alloc, log, client, Some(false)),
@@ -80,9 +96,10 @@ fn try_unconnected<E: End>(role: Role, alloc: Global, log: &mut NodeLog<E>) -> R
 }
 
 /// Whether a look finds fewer places at the end to a client's broker than its packets take as it connects. False at a broker's log.
-#[tactic(auto, using(crate::proofs::Crowding::too_full, crate::proofs::Crowding::same_log))]
+#[tactic(auto, using(crate::proofs::Crowding::too_full, crate::proofs::Crowding::same_log, crate::proofs::Crowding::places_nowhere, crate::proofs::Crowding::places_elsewhere, crate::proofs::Crowding::places_there))]
 fn is_too_full<E: End>(log: &mut NodeLog<E>, places: usize) -> bool
     ensures full { IsTrue result → IsTooFull E.free E.looks places log.old log.new }
+    ensures enough { IsFalse result → HasPlaces E.free places log.old log.new }
     ensures same { SameLog E.sent E.taken log.old log.new }
 {
     let Some(connecting) = connecting(log) else {

@@ -23,7 +23,7 @@ impl Actor {
     /// and the turn ends with the try in which memory was wanting.
     #[tactic(auto, using(crate::proofs::Waiting::waited_is))]
     pub fn turn<E: End>(&mut self, alloc: Global, log: &mut NodeLog<E>) -> Result<bool, Memory>
-        ensures { IsTurn E.sent E.taken E.shown E.free E.looks self.old log.old self.new log.new result }
+        ensures { IsTurn E.sent E.taken E.shown E.free E.looks E.fits self.old log.old self.new log.new result }
     {
         let is_done = self.try_all(alloc, log)?;
         let is_waiting = !is_done && has_waited(self.role, log);
@@ -33,7 +33,7 @@ impl Actor {
 
     /// Tries the events of the actor's role.
     fn try_all<E: End>(&mut self, alloc: Global, log: &mut NodeLog<E>) -> Result<bool, Memory>
-        ensures walk { Walks E.sent E.taken E.shown E.free E.looks (tries_of self.old self.old.role log.old) self.old.drawing log.old log.new self.new.drawing result }
+        ensures walk { Walks E.sent E.taken E.shown E.free E.looks E.fits (tries_of self.old self.old.role log.old) self.old.drawing log.old log.new self.new.drawing result }
         ensures rest { self.new ≡ record self.old { drawing = self.new.drawing } }
     {
         match self.role {
@@ -114,7 +114,7 @@ fn send<E: End>(
     link: Link,
     is_due: Option<bool>,
 ) -> Result<bool, Memory>
-    ensures { Walks E.sent E.taken E.shown E.free E.looks (replicator_tries is_due draws.old link) draws.old log.old log.new draws.new result }
+    ensures { Walks E.sent E.taken E.shown E.free E.looks E.fits (replicator_tries is_due draws.old link) draws.old log.old log.new draws.new result }
 {
     let Some(is_due) = is_due else {
         return Ok(false);
@@ -137,7 +137,7 @@ fn receive<E: End>(
     link: Link,
     is_here: bool,
 ) -> Result<bool, Memory>
-    ensures { Walks E.sent E.taken E.shown E.free E.looks (receiver_tries is_here draws.old link) draws.old log.old log.new draws.new result }
+    ensures { Walks E.sent E.taken E.shown E.free E.looks E.fits (receiver_tries is_here draws.old link) draws.old log.old log.new draws.new result }
 {
     if !is_here {
         return Ok(false);
@@ -155,7 +155,7 @@ fn control<E: End>(
     cluster: u32,
     is_here: bool,
 ) -> Result<bool, Memory>
-    ensures { Walks E.sent E.taken E.shown E.free E.looks (controller_tries is_here draws.old topic cluster) draws.old log.old log.new draws.new result }
+    ensures { Walks E.sent E.taken E.shown E.free E.looks E.fits (controller_tries is_here draws.old topic cluster) draws.old log.old log.new draws.new result }
 {
     if !is_here {
         return Ok(false);
@@ -174,7 +174,7 @@ pub(crate) fn run_client<E: End>(
     client: u32,
     is_due: Option<bool>,
 ) -> Result<bool, Memory>
-    ensures { (d : Drawing) → Walks E.sent E.taken E.shown E.free E.looks (client_tries is_due d client) d log.old log.new d result }
+    ensures { (d : Drawing) → Walks E.sent E.taken E.shown E.free E.looks E.fits (client_tries is_due d client) d log.old log.new d result }
 {
     let Some(is_due) = is_due else {
         return Ok(false);
@@ -195,7 +195,7 @@ fn serve<E: End>(
     client: u32,
     cluster: Option<u32>,
 ) -> Result<bool, Memory>
-    ensures { (d : Drawing) → Walks E.sent E.taken E.shown E.free E.looks (server_tries cluster d client) d log.old log.new d result }
+    ensures { (d : Drawing) → Walks E.sent E.taken E.shown E.free E.looks E.fits (server_tries cluster d client) d log.old log.new d result }
 {
     let Some(cluster) = cluster else {
         return Ok(false);
@@ -210,7 +210,7 @@ fn try_where<E: End>(
     log: &mut NodeLog<E>,
     event: &Event,
 ) -> Result<bool, Memory>
-    ensures { (d : Drawing) → Walks E.sent E.taken E.shown E.free E.looks (try_if is_due (tried d event.now)) d log.old log.new d result }
+    ensures { (d : Drawing) → Walks E.sent E.taken E.shown E.free E.looks E.fits (try_if is_due (tried d event.now)) d log.old log.new d result }
 {
     if !is_due {
         return Ok(false);
@@ -221,7 +221,7 @@ fn try_where<E: End>(
 /// Tries an event.
 #[tactic(auto, using(crate::proofs::Walking::one))]
 fn try_event<E: End>(alloc: Global, log: &mut NodeLog<E>, event: &Event) -> Result<bool, Memory>
-    ensures { (d after : Drawing) → Walks E.sent E.taken E.shown E.free E.looks (tried after event.now ∷ []) d log.old log.new after result }
+    ensures { (d after : Drawing) → Walks E.sent E.taken E.shown E.free E.looks E.fits (tried after event.now ∷ []) d log.old log.new after result }
 {
     log.act(alloc, event)
 }

@@ -1,6 +1,6 @@
 -- Peers that are linked, one after another.
-use Rattle.std.proofs.Common.{◌≡◌, ℕ, ◌+◌, ◌<◌, ◌≤◌, Bool, true, false, List, [], ◌∷◌, ◌++◌, length, refl, sym, ap, ◌∙◌, ◌==◌, arith}
-use Rattle.std.specs.Prelude.{if◌then◌else◌, not, ◌&&◌, ◌||◌, nat_lt}
+use Rattle.std.proofs.Common.{◌≡◌, ℕ, ◌+◌, ◌<◌, ◌≤◌, Bool, true, false, List, [], ◌∷◌, ◌++◌, length, refl, sym, ap, subst, ◌∙◌, ◌==◌, arith}
+use Rattle.std.specs.Prelude.{if◌then◌else◌, not, ◌&&◌, ◌||◌, nat_lt, IfSome, Option, Some}
 use Rattle.std.proofs.lemmas.Bool.{eq-eqb, lt-ltb}
 use Rattle.std.proofs.lemmas.Bool.Decides.{nat_tests}
 use Rattle.log_parts.specs.declared.table.EndRow.{EndRow}
@@ -10,6 +10,8 @@ use Rattle.geo_base.specs.declared.packet.Peer.{Peer}
 use Rattle.geo_base.specs.declared.packet.Peer.TheVariants as peer
 use Rattle.geo_base.specs.Nodes.{BrokerNode, ClientNode, is_peer}
 use Rattle.geo_base.specs.Setup.{Setup, declared_at}
+use Rattle.link_rings.specs.declared.either.RingEnd.{RingEnd}
+use Rattle.live_run.specs.Opened.{AreOpened, IsOpened}
 use Rattle.live_run.specs.Linked.{GainsBroker, GainsPeer, HasBrokers, HasClients, HasPeers, HasSites, are_brokers, are_clients, are_sites}
 use Rattle.geo_base.proofs.Bools.{or_assoc}
 use Rattle.geo_base.proofs.Sums.{eq_apart}
@@ -227,3 +229,20 @@ sites_done s c n rs there le ge before = λ q. before.each q ∙ ap (λ (m : ℕ
     each (peer.Forward y) = refl
     each (peer.Back y) = refl
     each (peer.Client d) = refl
+
+-- ---- rings that nothing went through
+
+pub none_opened : (rs : List (EndRow RingEnd)) → rs ≡ [] → AreOpened rs
+none_opened rs is = subst AreOpened (sym is) tt
+
+pub one_opened : (old new : List (EndRow RingEnd)) (r : EndRow RingEnd) → AreOpened old → IsOpened r → new ≡ old ++ r ∷ [] → AreOpened new
+one_opened old new r all one pushed = subst AreOpened (sym pushed) (more old all)
+  where
+    more : (rs : List (EndRow RingEnd)) → AreOpened rs → AreOpened (rs ++ r ∷ [])
+    more [] h = (one, tt)
+    more (x ∷ rs) h = (h.0, more rs h.1)
+
+-- ---- rings that wait
+
+pub found_within : (o : Option ℕ) (at n : ℕ) → IfSome o (λ k. k < n) → o ≡ Some at → at < n
+found_within o at n within is = subst (λ (u : Option ℕ). IfSome u (λ k. k < n)) is within

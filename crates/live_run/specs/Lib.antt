@@ -1,1 +1,5 @@
+pub mod Crews
 pub mod Linked
+pub mod Opened
+pub mod Rotation
+pub mod Turns

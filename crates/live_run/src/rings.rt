@@ -2,10 +2,11 @@
 ghost use Rattle.std.specs.Prelude.{◌≡◌, ◌<◌, ◌+◌, [], length, IfOk, IfSome, OnOk};
 ghost use Rattle.geo_base.specs.Nodes.{BrokerNode, ClientNode, node_count, node_number};
 ghost use Rattle.live_run.specs.Linked.{GainsBroker, GainsPeer, HasBrokers, HasClients, HasPeers, HasSites};
+ghost use Rattle.live_run.specs.Opened.{AreOpened, IsOpened, opened_send, opened_take};
 
 use actors::{broker_number, client_count, client_number, cluster_count, node_count, topic_of};
 use geo_base::{Memory, Peer};
-use link_rings::{RING_PLACES, RingEnd, ring};
+use link_rings::{RING_PLACES, RingEnd, RingSend, RingTake, ring};
 use log_parts::{EndRow, EndTable};
 use script_text::Scenario;
 use std::alloc::Global;
@@ -27,11 +28,43 @@ struct BrokerAt {
     cluster: u32,
 }
 
+/// The end that sends of a ring that nothing went through yet, and how its node names the one that takes.
+#[derive(Drop)]
+struct Outlet {
+    to: Peer,
+    end: RingSend,
+    ghost opened: { end ≡ opened_send },
+}
+
+/// The end that takes of such a ring, and how the node that sends names the one that takes.
+#[derive(Drop)]
+struct Inlet {
+    to: Peer,
+    end: RingTake,
+    ghost opened: { end ≡ opened_take },
+}
+
+/// The ends to a peer, of such rings.
+#[derive(Drop)]
+struct PeerRings {
+    peer: Peer,
+    goes: RingSend,
+    comes: RingTake,
+    ghost goes_opened: { goes ≡ opened_send },
+    ghost comes_opened: { comes ≡ opened_take },
+}
+
+/// The ends at a node that wait for it.
+#[derive(Drop)]
+struct WaitingRings {
+    rows: Vec<PeerRings>,
+}
+
 /// The links of a scenario's nodes. Whoever asks for the ends of a node first has the rings made; their other ends wait for the
 /// peer's turn. Contracts see how many nodes there are.
 #[derive(Drop)]
 pub struct NodeRings {
-    waiting: Vec<EndTable<RingEnd>>,
+    waiting: Vec<WaitingRings>,
 }
 
 impl Model for NodeRings {
@@ -49,14 +82,16 @@ impl NodeRings {
     {
         let mut waiting = Vec::new(alloc);
         for _node in 0..node_count(scenario) {
-            waiting.push(no_ends(alloc))?;
+            waiting.push(WaitingRings {
+                rows: Vec::new(alloc),
+            })?;
         }
         Ok(NodeRings { waiting })
     }
 
     /// The ends of the broker of a topic at a cluster: of the links to and from the topic's brokers at the other clusters, and then
     /// its clients. An `Err` is want of memory.
-    #[tactic(auto, using(world_laws::proofs::Merges::FewNodes::broker_there))]
+    #[tactic(auto, using(world_laws::proofs::Merges::FewNodes::broker_there, crate::proofs::Links::none_opened))]
     pub fn broker(
         &mut self,
         alloc: Global,
@@ -68,6 +103,7 @@ impl NodeRings {
         requires cluster { cluster < length scenario.now.setup.clusters }
         requires nodes { self.old ≡ node_count scenario.now.setup }
         ensures peers { IfOk result (λ t. HasPeers scenario.now.setup (BrokerNode topic cluster) t.rows.items) }
+        ensures opened { IfOk result (λ t. AreOpened t.rows.items) }
         ensures nodes { self.new ≡ self.old }
     {
         let own = broker_at(scenario, topic, cluster);
@@ -78,7 +114,7 @@ impl NodeRings {
     }
 
     /// Links a broker with those of its topic at the other clusters.
-    #[tactic(auto, using(crate::proofs::Links::no_brokers, crate::proofs::Links::brokers_done, world_laws::proofs::Merges::FewNodes::broker_there))]
+    #[tactic(auto, using(crate::proofs::Links::no_brokers, crate::proofs::Links::brokers_done, crate::proofs::Links::none_opened, world_laws::proofs::Merges::FewNodes::broker_there))]
     fn link_brokers(
         &mut self,
         alloc: Global,
@@ -91,6 +127,7 @@ impl NodeRings {
         requires nodes { self.old ≡ node_count scenario.now.setup }
         requires empty { ends.old.rows.items ≡ [] }
         ensures linked { OnOk result (HasClients scenario.now.setup own.topic own.cluster 0 ends.new.rows.items) }
+        ensures opened { OnOk result (AreOpened ends.new.rows.items) }
         ensures nodes { self.new ≡ self.old }
     {
         for remote in 0..cluster_count(scenario) {
@@ -112,7 +149,9 @@ impl NodeRings {
         requires here { own.node < self.old }
         requires there { other.node < self.old }
         requires so_far { HasBrokers own.cluster other.cluster ends.old.rows.items }
+        requires opened { AreOpened ends.old.rows.items }
         ensures linked { OnOk result (HasBrokers own.cluster (other.cluster + 1) ends.new.rows.items) }
+        ensures opened { OnOk result (AreOpened ends.new.rows.items) }
         ensures nodes { self.new ≡ self.old }
     {
         if other.cluster == own.cluster {
@@ -133,7 +172,9 @@ impl NodeRings {
     ) -> Result<(), Memory>
         requires here { own.node < self.old }
         requires there { other.node < self.old }
+        requires opened { AreOpened ends.old.rows.items }
         ensures linked { OnOk result (GainsBroker other.cluster ends.old.rows.items ends.new.rows.items) }
+        ensures opened { OnOk result (AreOpened ends.new.rows.items) }
         ensures nodes { self.new ≡ self.old }
     {
         let here = PeerEnd {
@@ -169,7 +210,9 @@ impl NodeRings {
         requires here { own.node < self.old }
         requires nodes { self.old ≡ node_count scenario.now.setup }
         requires brokers { HasClients scenario.now.setup own.topic own.cluster 0 ends.old.rows.items }
+        requires opened { AreOpened ends.old.rows.items }
         ensures linked { OnOk result (HasPeers scenario.now.setup (BrokerNode own.topic own.cluster) ends.new.rows.items) }
+        ensures opened { OnOk result (AreOpened ends.new.rows.items) }
         ensures nodes { self.new ≡ self.old }
     {
         for client in 0..client_count(scenario) {
@@ -192,7 +235,9 @@ impl NodeRings {
         requires here { own.node < self.old }
         requires nodes { self.old ≡ node_count scenario.now.setup }
         requires so_far { HasClients scenario.now.setup own.topic own.cluster client ends.old.rows.items }
+        requires opened { AreOpened ends.old.rows.items }
         ensures linked { OnOk result (HasClients scenario.now.setup own.topic own.cluster (client + 1) ends.new.rows.items) }
+        ensures opened { OnOk result (AreOpened ends.new.rows.items) }
         ensures nodes { self.new ≡ self.old }
     {
         if topic_of(scenario, client) != own.topic {
@@ -211,7 +256,7 @@ impl NodeRings {
     }
 
     /// The ends of a client: of the links to and from its topic's brokers. An `Err` is want of memory.
-    #[tactic(auto, using(crate::proofs::Links::no_sites, crate::proofs::Links::sites_done, world_laws::proofs::Merges::FewNodes::broker_there, world_laws::proofs::Merges::FewNodes::client_there))]
+    #[tactic(auto, using(crate::proofs::Links::no_sites, crate::proofs::Links::sites_done, crate::proofs::Links::none_opened, world_laws::proofs::Merges::FewNodes::broker_there, world_laws::proofs::Merges::FewNodes::client_there))]
     pub fn client(
         &mut self,
         alloc: Global,
@@ -221,6 +266,7 @@ impl NodeRings {
         requires client { client < length scenario.now.setup.clients }
         requires nodes { self.old ≡ node_count scenario.now.setup }
         ensures peers { IfOk result (λ t. HasPeers scenario.now.setup (ClientNode client) t.rows.items) }
+        ensures opened { IfOk result (λ t. AreOpened t.rows.items) }
         ensures nodes { self.new ≡ self.old }
     {
         let node = client_number(scenario, client);
@@ -249,7 +295,9 @@ impl NodeRings {
         requires here { node < self.old }
         requires there { there.node < self.old }
         requires so_far { HasSites cluster ends.old.rows.items }
+        requires opened { AreOpened ends.old.rows.items }
         ensures linked { OnOk result (HasSites (cluster + 1) ends.new.rows.items) }
+        ensures opened { OnOk result (AreOpened ends.new.rows.items) }
         ensures nodes { self.new ≡ self.old }
     {
         let here = PeerEnd {
@@ -261,7 +309,7 @@ impl NodeRings {
     }
 
     /// Adds the ends to a peer. An `Err` is want of memory.
-    #[tactic(auto, using(crate::proofs::Links::linked_row))]
+    #[tactic(auto, using(crate::proofs::Links::linked_row, crate::proofs::Links::one_opened))]
     fn link(
         &mut self,
         alloc: Global,
@@ -271,23 +319,20 @@ impl NodeRings {
     ) -> Result<(), Memory>
         requires here { here.node < self.old }
         requires there { there.node < self.old }
+        requires opened { AreOpened ends.old.rows.items }
         ensures linked { OnOk result (GainsPeer here.peer ends.old.rows.items ends.new.rows.items) }
+        ensures opened { OnOk result (AreOpened ends.new.rows.items) }
         ensures nodes { self.new ≡ self.old }
     {
         ends.rows.reserve(1)?;
         let row = self.ends_to(alloc, here, there)?;
-        ends.rows.push_reserved(row);
+        ends.rows.push_reserved(row.into_row());
         Ok(())
     }
 
     /// The ends to a peer: those that wait for the place, or those of new rings, whose other ends wait at the peer then. An `Err` is
     /// want of memory.
-    fn ends_to(
-        &mut self,
-        alloc: Global,
-        here: PeerEnd,
-        there: PeerEnd,
-    ) -> Result<EndRow<RingEnd>, Memory>
+    fn ends_to(&mut self, alloc: Global, here: PeerEnd, there: PeerEnd) -> Result<PeerRings, Memory>
         requires here { here.node < self.old }
         requires there { there.node < self.old }
         ensures peer { IfOk result (λ r. r.peer ≡ here.peer) }
@@ -327,43 +372,80 @@ fn no_ends(alloc: Global) -> EndTable<RingEnd>
     }
 }
 
+/// Where the ends to a peer wait; `None` where none do.
+fn place_of(waiting: &[PeerRings], peer: Peer) -> Option<usize>
+    ensures { IfSome result (λ at. at < length waiting.now) }
+{
+    for (at, row) in waiting.iter().enumerate() {
+        if row.peer == peer {
+            return Some(at);
+        }
+    }
+    None
+}
+
 /// The ends to a peer that wait, which wait no more.
-fn waiting_for(waiting: &mut EndTable<RingEnd>, peer: Peer) -> Option<EndRow<RingEnd>>
+fn waiting_for(waiting: &mut WaitingRings, peer: Peer) -> Option<PeerRings>
     ensures { IfSome result (λ r. r.peer ≡ peer) }
 {
-    let at = waiting.place(peer)?;
-    let EndRow { take, send, .. } = waiting.rows.swap_remove(at);
-    Some(EndRow { peer, take, send })
+    let at = place_of(waiting.rows.as_slice(), peer)?;
+    let PeerRings { goes, comes, .. } = waiting.rows.swap_remove(at);
+    Some(PeerRings { peer, goes, comes })
+}
+
+impl PeerRings {
+    /// A row of a table.
+    fn into_row(self) -> EndRow<RingEnd>
+        ensures peer { result.peer ≡ self.peer }
+        ensures opened { IsOpened result }
+    {
+        let PeerRings { peer, goes, comes } = self;
+        EndRow {
+            peer,
+            take: RingEnd::Take(comes),
+            send: RingEnd::Send(goes),
+        }
+    }
+
+    /// The ends to a peer, which names the node itself `own`: those of a ring to it and of a ring from it.
+    fn of(peer: Peer, own: Peer, goes: Outlet, comes: Inlet) -> PeerRings
+        requires goes { goes.to ≡ peer }
+        requires comes { comes.to ≡ own }
+        ensures { result.peer ≡ peer }
+    {
+        PeerRings {
+            peer,
+            goes: goes.end,
+            comes: comes.end,
+        }
+    }
+}
+
+/// A new ring from a node to the one that it names so. An `Err` is want of memory.
+fn new_ring(alloc: Global, to: Peer) -> Result<(Outlet, Inlet), Memory>
+    ensures goes { IfOk result (λ r. r.0.to ≡ to) }
+    ensures comes { IfOk result (λ r. r.1.to ≡ to) }
+{
+    let (send, take) = ring(alloc, RING_PLACES, PART_BYTES)?;
+    Ok((Outlet { to, end: send }, Inlet { to, end: take }))
 }
 
 /// Two new rings, one in each direction, between two nodes that name each other so: the ends at the one that names the other `near`,
 /// and those at the one that names it `far`. An `Err` is want of memory.
-fn new_rings(
-    alloc: Global,
-    near: Peer,
-    far: Peer,
-) -> Result<(EndRow<RingEnd>, EndRow<RingEnd>), Memory>
+fn new_rings(alloc: Global, near: Peer, far: Peer) -> Result<(PeerRings, PeerRings), Memory>
     ensures near { IfOk result (λ r. r.0.peer ≡ near) }
     ensures far { IfOk result (λ r. r.1.peer ≡ far) }
 {
-    let (sends, comes) = ring(alloc, RING_PLACES, PART_BYTES)?;
-    match ring(alloc, RING_PLACES, PART_BYTES) {
+    let (goes, comes) = new_ring(alloc, near)?;
+    match new_ring(alloc, far) {
         Ok((answers, returns)) => {
-            let here = EndRow {
-                peer: near,
-                take: RingEnd::Take(returns),
-                send: RingEnd::Send(sends),
-            };
-            let there = EndRow {
-                peer: far,
-                take: RingEnd::Take(comes),
-                send: RingEnd::Send(answers),
-            };
+            let here = PeerRings::of(near, far, goes, returns);
+            let there = PeerRings::of(far, near, answers, comes);
             Ok((here, there))
         }
         Err(error) => {
             // by calls, so that the ends of a ring are shown to end once
-            drop(sends);
+            drop(goes);
             drop(comes);
             Err(error)
         }

@@ -36,6 +36,7 @@ use Rattle.script_text.specs.Script.{Script}
 use Rattle.wire_ends.specs.declared.packet.WirePacket.{WirePacket}
 use Rattle.wire_ends.specs.Parcels.{Packed}
 use Rattle.world_laws.specs.ByteHistories.{ByteEvent, TakenStands}
+use Rattle.wire_ends.specs.Parcels.{Packed as Parcel}
 
 -- ---- what it knows of the setup
 
@@ -116,16 +117,16 @@ unchanged : {E : Type 0} (sc : Script) (v : BrokerView) (h : List (ByteEvent Wir
     → SameLog sent_in taken_in (log_view sc (kept.Broker v) h k rs) (log_view sc (kept.Broker v) h k rs)
 unchanged sc v h k sent_in taken_in rs = record { scenario = refl; node = refl; state = refl; history = refl; clock = refl; sent = λ q. refl; taken = λ q. refl }
 
-pub broker_elsewhere : {E : Type 0} (sc : Script) (v : BrokerView) (h : List (ByteEvent WirePacket)) (k : ℕ) (rs : List (EndRow E)) (e : Event) (sent_in taken_in : E → List WirePacket) (shown : E → Option WirePacket) (free looks : E → ℕ) (r : Bool)
+pub broker_elsewhere : {E : Type 0} (sc : Script) (v : BrokerView) (h : List (ByteEvent WirePacket)) (k : ℕ) (rs : List (EndRow E)) (e : Event) (sent_in taken_in : E → List WirePacket) (shown : E → Option WirePacket) (free looks : E → ℕ) (fits : Parcel → Type 0) (r : Bool)
     → (IsTrue r ↔ IsAtBroker sc.setup v.topic v.site.own e) → r ≡ false
-    → IsHeld shown free looks e (log_view sc (kept.Broker v) h k rs) (log_view sc (kept.Broker v) h k rs) × SameLog sent_in taken_in (log_view sc (kept.Broker v) h k rs) (log_view sc (kept.Broker v) h k rs)
-broker_elsewhere sc v h k rs e sent_in taken_in shown free looks r is fails =
+    → IsHeld shown free looks fits e (log_view sc (kept.Broker v) h k rs) (log_view sc (kept.Broker v) h k rs) × SameLog sent_in taken_in (log_view sc (kept.Broker v) h k rs) (log_view sc (kept.Broker v) h k rs)
+broker_elsewhere sc v h k rs e sent_in taken_in shown free looks fits r is fails =
     (IsHeld.Elsewhere (λ own. refused r is fails (at_own sc.setup v.topic v.site.own e own)), unchanged sc v h k sent_in taken_in rs)
 
-pub broker_no_number : {E : Type 0} (sc : Script) (v : BrokerView) (h : List (ByteEvent WirePacket)) (k : ℕ) (rs : List (EndRow E)) (e : Event) (sent_in taken_in : E → List WirePacket) (shown : E → Option WirePacket) (free looks : E → ℕ) (a r : Bool)
+pub broker_no_number : {E : Type 0} (sc : Script) (v : BrokerView) (h : List (ByteEvent WirePacket)) (k : ℕ) (rs : List (EndRow E)) (e : Event) (sent_in taken_in : E → List WirePacket) (shown : E → Option WirePacket) (free looks : E → ℕ) (fits : Parcel → Type 0) (a r : Bool)
     → LogHolds sc.setup (kept.Broker v) h k rs → (IsTrue a ↔ IsAtBroker sc.setup v.topic v.site.own e) → a ≡ true → (IsTrue r ↔ CanHappen v e) → r ≡ false
-    → IsHeld shown free looks e (log_view sc (kept.Broker v) h k rs) (log_view sc (kept.Broker v) h k rs) × SameLog sent_in taken_in (log_view sc (kept.Broker v) h k rs) (log_view sc (kept.Broker v) h k rs)
-broker_no_number sc v h k rs e sent_in taken_in shown free looks a r holds at here is fails =
+    → IsHeld shown free looks fits e (log_view sc (kept.Broker v) h k rs) (log_view sc (kept.Broker v) h k rs) × SameLog sent_in taken_in (log_view sc (kept.Broker v) h k rs) (log_view sc (kept.Broker v) h k rs)
+broker_no_number sc v h k rs e sent_in taken_in shown free looks fits a r holds at here is fails =
     (IsHeld.NoNumber (no_number sc.setup v e holds.state.0 holds.state.1 (at.0 here) (refused r is fails)), unchanged sc v h k sent_in taken_in rs)
 
 -- v is the broker before the event and w where it was prepared; rs are the ends before it, rs1 after the look, rs2 after packing
@@ -168,17 +169,17 @@ broker_goes s v h k rs rs1 e shown from n p q idle outs holds at can takes looke
     go_to_peers s (kept.Broker v) h k rs rs1 e shown from n idle outs (BrokerState (done s.per_ledger v.broker (plan_in v.broker p))) holds peers (own_of s v e h k rs holds at) (takes v.broker)
     (seen_of s v h k rs e (shown_for shown rs1 from) n p q idle outs holds at can looked without is_idle are) enabled
 
-pub broker_held : {E : Type 0} (sc : Script) (v w : BrokerView) (h h' : List (ByteEvent WirePacket)) (k k' : ℕ) (e : Event) (sent_in taken_in : E → List WirePacket) (shown : E → Option WirePacket) (free looks : E → ℕ)
+pub broker_held : {E : Type 0} (sc : Script) (v w : BrokerView) (h h' : List (ByteEvent WirePacket)) (k k' : ℕ) (e : Event) (sent_in taken_in : E → List WirePacket) (shown : E → Option WirePacket) (free looks : E → ℕ) (fits : Parcel → Type 0)
     (from : Option Peer) (n : ℕ) (p q : PlanView) (idle : Bool) (outs : List WireOut) (rs rs1 rs2 : List (EndRow E)) (o : Option ReadyPackets)
     → LogHolds sc.setup (kept.Broker v) h k rs → IsAtBroker sc.setup v.topic v.site.own e → CanHappen v e → ((b : Broker) → from ≡ takes_from (BrokerState b) e)
     → IsLooked v e (shown_for shown rs1 from) n p → w.broker ≡ v.broker → SameNode v w → LookedFor looks rs rs1 from → LooksRise looks rs rs1 → SameSends sent_in free rs rs1 → SameTaken taken_in rs rs1
-    → q ≡ record p { sent = [] } → idle ≡ q.idle → outs ≡ p.sent → o ≡ None → IfNone o (MayNotJoin free looks idle (max k n) outs rs1 rs2)
+    → q ≡ record p { sent = [] } → idle ≡ q.idle → outs ≡ p.sent → o ≡ None → IfNone o (MayNotJoin free looks fits idle (max k n) outs rs1 rs2)
     → SameSends sent_in free rs1 rs2 → SameTakes taken_in shown rs1 rs2 → h' ≡ h → k' ≡ k
-    → IsHeld shown free looks e (log_view sc (kept.Broker v) h k rs) (log_view sc (kept.Broker w) h' k' rs2) × SameLog sent_in taken_in (log_view sc (kept.Broker v) h k rs) (log_view sc (kept.Broker w) h' k' rs2)
-broker_held sc v w h h' k k' e sent_in taken_in shown free looks from n p q idle outs rs rs1 rs2 o holds at can takes looked broker same looks1 rise sends taken without is_idle are none unready sends2 takes2 history clock = (
-  held_is sc (kept.Broker v) (kept.Broker w) h h' k k' e shown taken_in free looks from n idle outs (BrokerState (done sc.setup.per_ledger v.broker (plan_in v.broker p))) rs rs1 rs2 (takes v.broker)
+    → IsHeld shown free looks fits e (log_view sc (kept.Broker v) h k rs) (log_view sc (kept.Broker w) h' k' rs2) × SameLog sent_in taken_in (log_view sc (kept.Broker v) h k rs) (log_view sc (kept.Broker w) h' k' rs2)
+broker_held sc v w h h' k k' e sent_in taken_in shown free looks fits from n p q idle outs rs rs1 rs2 o holds at can takes looked broker same looks1 rise sends taken without is_idle are none unready sends2 takes2 history clock = (
+  held_is sc (kept.Broker v) (kept.Broker w) h h' k k' e shown taken_in free looks fits from n idle outs (BrokerState (done sc.setup.per_ledger v.broker (plan_in v.broker p))) rs rs1 rs2 (takes v.broker)
       (seen_of sc.setup v h k rs e (shown_for shown rs1 from) n p q idle outs holds at can looked without is_idle are)
-      looks1 rise takes2 (subst (λ (u : Option ReadyPackets). IfNone u (MayNotJoin free looks idle (max k n) outs rs1 rs2)) none unready),
+      looks1 rise takes2 (subst (λ (u : Option ReadyPackets). IfNone u (MayNotJoin free looks fits idle (max k n) outs rs1 rs2)) none unready),
   broker_err_late sc v w h h' k k' sent_in taken_in free shown rs rs1 rs2 broker same sends taken sends2 takes2 history clock,
 )
 

@@ -38,16 +38,17 @@ use Rattle.script_text.specs.Script.{Script}
 use Rattle.wire_ends.specs.declared.packet.WirePacket.{WirePacket}
 use Rattle.wire_ends.specs.Parcels.{Packed}
 use Rattle.world_laws.specs.ByteHistories.{ByteEvent, TakenStands}
+use Rattle.wire_ends.specs.Parcels.{Packed as Parcel}
 
-pub held_get : {E : Type 0} (sc : Script) (st st' : Kept) (h h' : List (ByteEvent WirePacket)) (k k' : ℕ) (e : Event) (shown : E → Option WirePacket) (free looks : E → ℕ) (from : Peer) (rs rs1 : List (EndRow E))
+pub held_get : {E : Type 0} (sc : Script) (st st' : Kept) (h h' : List (ByteEvent WirePacket)) (k k' : ℕ) (e : Event) (shown : E → Option WirePacket) (free looks : E → ℕ) (fits : Parcel → Type 0) (from : Peer) (rs rs1 : List (EndRow E))
     → Some from ≡ takes_from (machine_state st) e → LookedFor looks rs rs1 (Some from) → IsNotGot k (shown_for shown rs1 (Some from))
-    → IsHeld shown free looks e (log_view sc st h k rs) (log_view sc st' h' k' rs1)
-held_get {E} sc st st' h h' k k' e shown free looks from rs rs1 takes looked not_got = by not_got
+    → IsHeld shown free looks fits e (log_view sc st h k rs) (log_view sc st' h' k' rs1)
+held_get {E} sc st st' h h' k k' e shown free looks fits from rs rs1 takes looked not_got = by not_got
   where
     looked_at : LookedFor looks rs rs1 (takes_from (machine_state st) e)
     looked_at = subst (LookedFor looks rs rs1) takes looked
 
-    by : IsNotGot k (shown_for shown rs1 (Some from)) → IsHeld shown free looks e (log_view sc st h k rs) (log_view sc st' h' k' rs1)
+    by : IsNotGot k (shown_for shown rs1 (Some from)) → IsHeld shown free looks fits e (log_view sc st h k rs) (log_view sc st' h' k' rs1)
     by (IsNotGot.Nothing none) = IsHeld.Idle
         (record {
           said = None;
@@ -78,16 +79,16 @@ unchanged : {E : Type 0} (sc : Script) (c : NumberedClient) (h : List (ByteEvent
     → SameLog sent_in taken_in (log_view sc (kept.Client c) h k rs) (log_view sc (kept.Client c) h k rs)
 unchanged sc c h k sent_in taken_in rs = record { scenario = refl; node = refl; state = refl; history = refl; clock = refl; sent = λ q. refl; taken = λ q. refl }
 
-pub client_elsewhere : {E : Type 0} (sc : Script) (c : NumberedClient) (h : List (ByteEvent WirePacket)) (k : ℕ) (rs : List (EndRow E)) (e : Event) (sent_in taken_in : E → List WirePacket) (shown : E → Option WirePacket) (free looks : E → ℕ) (r : Bool)
+pub client_elsewhere : {E : Type 0} (sc : Script) (c : NumberedClient) (h : List (ByteEvent WirePacket)) (k : ℕ) (rs : List (EndRow E)) (e : Event) (sent_in taken_in : E → List WirePacket) (shown : E → Option WirePacket) (free looks : E → ℕ) (fits : Parcel → Type 0) (r : Bool)
     → (IsTrue r ↔ IsAtClient c.number e) → r ≡ false
-    → IsHeld shown free looks e (log_view sc (kept.Client c) h k rs) (log_view sc (kept.Client c) h k rs) × SameLog sent_in taken_in (log_view sc (kept.Client c) h k rs) (log_view sc (kept.Client c) h k rs)
-client_elsewhere sc c h k rs e sent_in taken_in shown free looks r is fails =
+    → IsHeld shown free looks fits e (log_view sc (kept.Client c) h k rs) (log_view sc (kept.Client c) h k rs) × SameLog sent_in taken_in (log_view sc (kept.Client c) h k rs) (log_view sc (kept.Client c) h k rs)
+client_elsewhere sc c h k rs e sent_in taken_in shown free looks fits r is fails =
     (IsHeld.Elsewhere (λ own. refused r is fails (client_own sc.setup c.number e own)), unchanged sc c h k sent_in taken_in rs)
 
-pub client_no_number : {E : Type 0} (sc : Script) (c : NumberedClient) (h : List (ByteEvent WirePacket)) (k : ℕ) (rs : List (EndRow E)) (e : Event) (sent_in taken_in : E → List WirePacket) (shown : E → Option WirePacket) (free looks : E → ℕ) (r : Bool)
+pub client_no_number : {E : Type 0} (sc : Script) (c : NumberedClient) (h : List (ByteEvent WirePacket)) (k : ℕ) (rs : List (EndRow E)) (e : Event) (sent_in taken_in : E → List WirePacket) (shown : E → Option WirePacket) (free looks : E → ℕ) (fits : Parcel → Type 0) (r : Bool)
     → (IsTrue r ↔ ClientRises c.client e) → r ≡ false
-    → IsHeld shown free looks e (log_view sc (kept.Client c) h k rs) (log_view sc (kept.Client c) h k rs) × SameLog sent_in taken_in (log_view sc (kept.Client c) h k rs) (log_view sc (kept.Client c) h k rs)
-client_no_number sc c h k rs e sent_in taken_in shown free looks r is fails = (IsHeld.NoNumber (refused r is fails), unchanged sc c h k sent_in taken_in rs)
+    → IsHeld shown free looks fits e (log_view sc (kept.Client c) h k rs) (log_view sc (kept.Client c) h k rs) × SameLog sent_in taken_in (log_view sc (kept.Client c) h k rs) (log_view sc (kept.Client c) h k rs)
+client_no_number sc c h k rs e sent_in taken_in shown free looks fits r is fails = (IsHeld.NoNumber (refused r is fails), unchanged sc c h k sent_in taken_in rs)
 
 -- d is the client after it; rs1 are the ends then
 pub client_err : {E : Type 0} (sc : Script) (c d : NumberedClient) (h h' : List (ByteEvent WirePacket)) (k k' : ℕ) (sent_in taken_in : E → List WirePacket) (free : E → ℕ) (rs rs1 : List (EndRow E))
@@ -149,15 +150,15 @@ client_goes s c h k rs shown e p q idle outs holds at other seen without is_idle
     go_to_peers s (kept.Client c) h k rs rs e shown None 0 idle outs (ClientState (client_after p.change c.client)) holds (λ x. refl) (own_of s c h k rs e holds at) (sym (takes_nothing c.client c.number e at other))
     (seen_of s c e p q idle outs seen without is_idle are) enabled
 
-pub client_held : {E : Type 0} (sc : Script) (c : NumberedClient) (h h' : List (ByteEvent WirePacket)) (k k' : ℕ) (e : Event) (sent_in taken_in : E → List WirePacket) (shown : E → Option WirePacket) (free looks : E → ℕ)
+pub client_held : {E : Type 0} (sc : Script) (c : NumberedClient) (h h' : List (ByteEvent WirePacket)) (k k' : ℕ) (e : Event) (sent_in taken_in : E → List WirePacket) (shown : E → Option WirePacket) (free looks : E → ℕ) (fits : Parcel → Type 0)
     (p q : PreparedClient) (idle : Bool) (outs : List WireOut) (rs rs1 : List (EndRow E)) (o : Option ReadyPackets)
     → IsAtClient c.number e → (IsGet e → ⊥) → IsSeen sc.setup (ClientState c.client) e None 0 (not (is_some p.change)) p.sent (ClientState (client_after p.change c.client))
-    → q ≡ record p { sent = [] } → idle ≡ not (is_some q.change) → outs ≡ p.sent → o ≡ None → IfNone o (MayNotJoin free looks idle (max k 0) outs rs rs1)
+    → q ≡ record p { sent = [] } → idle ≡ not (is_some q.change) → outs ≡ p.sent → o ≡ None → IfNone o (MayNotJoin free looks fits idle (max k 0) outs rs rs1)
     → SameSends sent_in free rs rs1 → SameTakes taken_in shown rs rs1 → h' ≡ h → k' ≡ k
-    → IsHeld shown free looks e (log_view sc (kept.Client c) h k rs) (log_view sc (kept.Client c) h' k' rs1) × SameLog sent_in taken_in (log_view sc (kept.Client c) h k rs) (log_view sc (kept.Client c) h' k' rs1)
-client_held sc c h h' k k' e sent_in taken_in shown free looks p q idle outs rs rs1 o at other seen without is_idle are none unready sends takes history clock = (
-  held_is sc (kept.Client c) (kept.Client c) h h' k k' e shown taken_in free looks None 0 idle outs (ClientState (client_after p.change c.client)) rs rs rs1 (sym (takes_nothing c.client c.number e at other))
-      (seen_of sc.setup c e p q idle outs seen without is_idle are) tt (λ x. omega arith) takes (subst (λ (u : Option ReadyPackets). IfNone u (MayNotJoin free looks idle (max k 0) outs rs rs1)) none unready),
+    → IsHeld shown free looks fits e (log_view sc (kept.Client c) h k rs) (log_view sc (kept.Client c) h' k' rs1) × SameLog sent_in taken_in (log_view sc (kept.Client c) h k rs) (log_view sc (kept.Client c) h' k' rs1)
+client_held sc c h h' k k' e sent_in taken_in shown free looks fits p q idle outs rs rs1 o at other seen without is_idle are none unready sends takes history clock = (
+  held_is sc (kept.Client c) (kept.Client c) h h' k k' e shown taken_in free looks fits None 0 idle outs (ClientState (client_after p.change c.client)) rs rs rs1 (sym (takes_nothing c.client c.number e at other))
+      (seen_of sc.setup c e p q idle outs seen without is_idle are) tt (λ x. omega arith) takes (subst (λ (u : Option ReadyPackets). IfNone u (MayNotJoin free looks fits idle (max k 0) outs rs rs1)) none unready),
   client_err sc c c h h' k k' sent_in taken_in free rs rs1 refl sends takes.taken history clock,
 )
 
@@ -202,13 +203,13 @@ broker_of k v is = ap (λ (a : Client). peer.Broker a.cluster) is
 from_of : (k : Client) (v : ClientView) (e : Event) (from : Peer) → viewed v ≡ k → IsGet e → from ≡ peer.Broker v.cluster → Some from ≡ takes_from (ClientState k) e
 from_of k v e from is get from_is = ap Some (from_is ∙ broker_of k v is) ∙ sym (get_takes k e get)
 
-pub get_held : {E : Type 0} (sc : Script) (c d : NumberedClient) (h h' : List (ByteEvent WirePacket)) (k : ℕ) (e : Event) (sent_in taken_in : E → List WirePacket) (shown : E → Option WirePacket) (free looks : E → ℕ)
+pub get_held : {E : Type 0} (sc : Script) (c d : NumberedClient) (h h' : List (ByteEvent WirePacket)) (k : ℕ) (e : Event) (sent_in taken_in : E → List WirePacket) (shown : E → Option WirePacket) (free looks : E → ℕ) (fits : Parcel → Type 0)
     (v : ClientView) (from : Peer) (rs rs1 : List (EndRow E)) (o : Option ℕ)
     → IsGet e → viewed v ≡ c.client → from ≡ peer.Broker v.cluster → o ≡ None → IfNone o (IsNotGot k (shown_for shown rs1 (Some from))) → IfNone o (d ≡ c) → LookedFor looks rs rs1 (Some from)
     → SameSends sent_in free rs rs1 → SameTaken taken_in rs rs1 → h' ≡ h
-    → IsHeld shown free looks e (log_view sc (kept.Client c) h k rs) (log_view sc (kept.Client d) h' k rs1) × SameLog sent_in taken_in (log_view sc (kept.Client c) h k rs) (log_view sc (kept.Client d) h' k rs1)
-get_held sc c d h h' k e sent_in taken_in shown free looks v from rs rs1 o get view from_is none not_got stays looked sends taken history = (
-  held_get sc (kept.Client c) (kept.Client d) h h' k k e shown free looks from rs rs1 (from_of c.client v e from view get from_is) looked (subst (λ (u : Option ℕ). IfNone u (IsNotGot k (shown_for shown rs1 (Some from)))) none not_got),
+    → IsHeld shown free looks fits e (log_view sc (kept.Client c) h k rs) (log_view sc (kept.Client d) h' k rs1) × SameLog sent_in taken_in (log_view sc (kept.Client c) h k rs) (log_view sc (kept.Client d) h' k rs1)
+get_held sc c d h h' k e sent_in taken_in shown free looks fits v from rs rs1 o get view from_is none not_got stays looked sends taken history = (
+  held_get sc (kept.Client c) (kept.Client d) h h' k k e shown free looks fits from rs rs1 (from_of c.client v e from view get from_is) looked (subst (λ (u : Option ℕ). IfNone u (IsNotGot k (shown_for shown rs1 (Some from)))) none not_got),
   client_err sc c d h h' k k sent_in taken_in free rs rs1 (subst (λ (u : Option ℕ). IfNone u (d ≡ c)) none stays) sends taken history refl,
 )
 

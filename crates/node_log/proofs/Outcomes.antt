@@ -22,29 +22,30 @@ use Rattle.node_log.proofs.Packs.{lacks_since, packets_are}
 use Rattle.script_text.specs.Script.{Script}
 use Rattle.wire_ends.specs.declared.packet.WirePacket.{WirePacket}
 use Rattle.world_laws.specs.ByteHistories.{ByteEvent, TakenStands}
+use Rattle.wire_ends.specs.Parcels.{Packed as Parcel}
 
 pub refused : {P : Type 0} (r : Bool) → (IsTrue r ↔ P) → r ≡ false → P → ⊥
 refused r is fails p = true_false (sym (is.1 p) ∙ fails)
 
 -- ---- for a caller of the whole log: old and new are its values, was and is those that its parts show
 
-pub acted_of : {E : Type 0} (sent_in taken_in : E → List WirePacket) (shown : E → Option WirePacket) (free looks : E → ℕ) (e : Event) (old new was is : NodeLogView E) (r : Result Bool Memory)
-    → IfOk r (Outcome sent_in taken_in shown free looks e was is) → was ≡ old → is ≡ new → IfOk r (λ so. IsTrue so → IsActed sent_in taken_in e old new)
-acted_of sent_in taken_in shown free looks e old new was is (Ok true) h before after = λ so. rw (← before, ← after) h
-acted_of sent_in taken_in shown free looks e old new was is (Ok false) h before after = λ so. absurd (true_false (sym so))
-acted_of sent_in taken_in shown free looks e old new was is (Err m) h before after = tt
+pub acted_of : {E : Type 0} (sent_in taken_in : E → List WirePacket) (shown : E → Option WirePacket) (free looks : E → ℕ) (fits : Parcel → Type 0) (e : Event) (old new was is : NodeLogView E) (r : Result Bool Memory)
+    → IfOk r (Outcome sent_in taken_in shown free looks fits e was is) → was ≡ old → is ≡ new → IfOk r (λ so. IsTrue so → IsActed sent_in taken_in e old new)
+acted_of sent_in taken_in shown free looks fits e old new was is (Ok true) h before after = λ so. rw (← before, ← after) h
+acted_of sent_in taken_in shown free looks fits e old new was is (Ok false) h before after = λ so. absurd (true_false (sym so))
+acted_of sent_in taken_in shown free looks fits e old new was is (Err m) h before after = tt
 
-pub held_of : {E : Type 0} (sent_in taken_in : E → List WirePacket) (shown : E → Option WirePacket) (free looks : E → ℕ) (e : Event) (old new was is : NodeLogView E) (r : Result Bool Memory)
-    → IfOk r (Outcome sent_in taken_in shown free looks e was is) → was ≡ old → is ≡ new → IfOk r (λ so. IsFalse so → IsHeld shown free looks e old new)
-held_of sent_in taken_in shown free looks e old new was is (Ok true) h before after = λ fails. absurd (true_false fails)
-held_of sent_in taken_in shown free looks e old new was is (Ok false) h before after = λ fails. rw (← before, ← after) h.0
-held_of sent_in taken_in shown free looks e old new was is (Err m) h before after = tt
+pub held_of : {E : Type 0} (sent_in taken_in : E → List WirePacket) (shown : E → Option WirePacket) (free looks : E → ℕ) (fits : Parcel → Type 0) (e : Event) (old new was is : NodeLogView E) (r : Result Bool Memory)
+    → IfOk r (Outcome sent_in taken_in shown free looks fits e was is) → was ≡ old → is ≡ new → IfOk r (λ so. IsFalse so → IsHeld shown free looks fits e old new)
+held_of sent_in taken_in shown free looks fits e old new was is (Ok true) h before after = λ fails. absurd (true_false fails)
+held_of sent_in taken_in shown free looks fits e old new was is (Ok false) h before after = λ fails. rw (← before, ← after) h.0
+held_of sent_in taken_in shown free looks fits e old new was is (Err m) h before after = tt
 
-pub same_of : {E : Type 0} (sent_in taken_in : E → List WirePacket) (shown : E → Option WirePacket) (free looks : E → ℕ) (e : Event) (old new was is : NodeLogView E) (r : Result Bool Memory)
-    → IfOk r (Outcome sent_in taken_in shown free looks e was is) → was ≡ old → is ≡ new → IfOk r (λ so. IsFalse so → SameLog sent_in taken_in old new)
-same_of sent_in taken_in shown free looks e old new was is (Ok true) h before after = λ fails. absurd (true_false fails)
-same_of sent_in taken_in shown free looks e old new was is (Ok false) h before after = λ fails. rw (← before, ← after) h.1
-same_of sent_in taken_in shown free looks e old new was is (Err m) h before after = tt
+pub same_of : {E : Type 0} (sent_in taken_in : E → List WirePacket) (shown : E → Option WirePacket) (free looks : E → ℕ) (fits : Parcel → Type 0) (e : Event) (old new was is : NodeLogView E) (r : Result Bool Memory)
+    → IfOk r (Outcome sent_in taken_in shown free looks fits e was is) → was ≡ old → is ≡ new → IfOk r (λ so. IsFalse so → SameLog sent_in taken_in old new)
+same_of sent_in taken_in shown free looks fits e old new was is (Ok true) h before after = λ fails. absurd (true_false fails)
+same_of sent_in taken_in shown free looks fits e old new was is (Ok false) h before after = λ fails. rw (← before, ← after) h.1
+same_of sent_in taken_in shown free looks fits e old new was is (Err m) h before after = tt
 
 pub err_of : {E : Type 0} (sent_in taken_in : E → List WirePacket) (old new was is : NodeLogView E) (r : Result Bool Memory)
     → OnErr r (SameLog sent_in taken_in was is) → was ≡ old → is ≡ new → OnErr r (SameLog sent_in taken_in old new)
@@ -69,12 +70,12 @@ stamp_shown names (Some w) None stands = absurd stands
 stamp_shown names (Some w) (Some p) stands = stands.stamp
 
 -- rs are the ends before it, rs1 after the look, rs2 after packing
-pub held_is : {E : Type 0} (sc : Script) (st st' : Kept) (h h' : List (ByteEvent WirePacket)) (k k' : ℕ) (e : Event) (shown : E → Option WirePacket) (taken_in : E → List WirePacket) (free looks : E → ℕ)
+pub held_is : {E : Type 0} (sc : Script) (st st' : Kept) (h h' : List (ByteEvent WirePacket)) (k k' : ℕ) (e : Event) (shown : E → Option WirePacket) (taken_in : E → List WirePacket) (free looks : E → ℕ) (fits : Parcel → Type 0)
     (from : Option Peer) (n : ℕ) (rests : Bool) (outs : List WireOut) (after : NodeState) (rs rs1 rs2 : List (EndRow E))
     → from ≡ takes_from (machine_state st) e → IsSeen sc.setup (machine_state st) e (shown_for shown rs1 from) n rests outs after
-    → LookedFor looks rs rs1 from → LooksRise looks rs rs1 → SameTakes taken_in shown rs1 rs2 → MayNotJoin free looks rests (max k n) outs rs1 rs2
-    → IsHeld shown free looks e (log_view sc st h k rs) (log_view sc st' h' k' rs2)
-held_is {E} sc st st' h h' k k' e shown taken_in free looks from n rests outs after rs rs1 rs2 takes seen looked rise takes2 held = by held
+    → LookedFor looks rs rs1 from → LooksRise looks rs rs1 → SameTakes taken_in shown rs1 rs2 → MayNotJoin free looks fits rests (max k n) outs rs1 rs2
+    → IsHeld shown free looks fits e (log_view sc st h k rs) (log_view sc st' h' k' rs2)
+held_is {E} sc st st' h h' k k' e shown taken_in free looks fits from n rests outs after rs rs1 rs2 takes seen looked rise takes2 held = by held
   where
     still : (f : Option Peer) → shown_for shown rs1 f ≡ shown_for shown rs2 f
     still None = refl
@@ -87,7 +88,7 @@ held_is {E} sc st st' h h' k k' e shown taken_in free looks from n rests outs af
     looked_at : rs2 ≡ rs1 → LookedFor looks rs rs2 (takes_from (machine_state st) e)
     looked_at same = subst (LookedFor looks rs rs2) takes (subst (λ (l : List (EndRow E)). LookedFor looks rs l from) (sym same) looked)
 
-    by : MayNotJoin free looks rests (max k n) outs rs1 rs2 → IsHeld shown free looks e (log_view sc st h k rs) (log_view sc st' h' k' rs2)
+    by : MayNotJoin free looks fits rests (max k n) outs rs1 rs2 → IsHeld shown free looks fits e (log_view sc st h k rs) (log_view sc st' h' k' rs2)
     by (MayNotJoin.Rests so same) = IsHeld.Idle (record { said = seen.said; stands = stands; idle = seen.idle ∙ so }) (looked_at same)
     by (MayNotJoin.Late low same) =
         IsHeld.NoStamp (subst (λ (m : ℕ). 2 ^ 63 ≤ max k m) (seen.stamp ∙ stamp_shown sc.setup.clusters (shown_for shown rs2 (takes_from (machine_state st) e)) seen.said stands) low) (looked_at same)
@@ -99,5 +100,6 @@ held_is {E} sc st st' h h' k k' e shown taken_in free looks from n rests outs af
           (sent_as sc.setup.clusters (1 + max k n) (acts sc.setup (machine_state st) e seen.said).sent outs seen.sent);
       parcels = lacks.parcels;
       packed = λ q. packets_are q lacks.parcels (all_sent_at (1 + max k n) outs) lacks.packed;
+      addressed = lacks.addressed;
       lacks = lacks_since free looks rs rs1 rs2 lacks.parcels rise lacks.lacks;
     })

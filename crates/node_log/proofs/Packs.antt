@@ -99,8 +99,8 @@ may_join free fit rests at last outs rs (Err m) on low is packed = tt
 may_join free fit rests at last outs rs (Ok None) on low is packed = tt
 may_join free fit rests at last outs rs (Ok (Some p)) on low is packed = record { enabled = on; low = low; packed = rw (← is) packed }
 
-pub lacks_join : {E : Type 0} (free looks : E → ℕ) (rests : Bool) (at last : ℕ) (outs : List WireOut) (rs rs' : List (EndRow E)) (r : Result (Option ReadyPackets) Memory) → rests ≡ false → at ≡ 1 + last
-    → IfOk r (λ o. IfNone o (LacksFor free looks at outs rs rs')) → IfOk r (λ o. IfNone o (MayNotJoin free looks rests last outs rs rs'))
-lacks_join free looks rests at last outs rs rs' (Err m) on is lacks = tt
-lacks_join free looks rests at last outs rs rs' (Ok None) on is lacks = MayNotJoin.Lacks on (rw (← is) lacks)
-lacks_join free looks rests at last outs rs rs' (Ok (Some p)) on is lacks = tt
+pub lacks_join : {E : Type 0} (free looks : E → ℕ) (fits : Packed → Type 0) (rests : Bool) (at last : ℕ) (outs : List WireOut) (rs rs' : List (EndRow E)) (r : Result (Option ReadyPackets) Memory) → rests ≡ false → at ≡ 1 + last
+    → IfOk r (λ o. IfNone o (LacksFor free looks fits at outs rs rs')) → IfOk r (λ o. IfNone o (MayNotJoin free looks fits rests last outs rs rs'))
+lacks_join free looks fits rests at last outs rs rs' (Err m) on is lacks = tt
+lacks_join free looks fits rests at last outs rs rs' (Ok None) on is lacks = MayNotJoin.Lacks on (rw (← is) lacks)
+lacks_join free looks fits rests at last outs rs rs' (Ok (Some p)) on is lacks = tt

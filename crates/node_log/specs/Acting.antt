@@ -10,6 +10,7 @@ use Rattle.node_log.specs.Acts.{IsActed, IsHeld, SameLog, packet_from, shown_for
 use Rattle.node_log.specs.Logs.{NodeLogView}
 use Rattle.wire_ends.specs.declared.packet.WirePacket.{WirePacket}
 use Rattle.world_laws.specs.ByteHistories.{ByteEvent}
+use Rattle.wire_ends.specs.Parcels.{Packed as Parcel}
 
 -- its packet was taken, its parcels were sent, and it is written down
 pub record Finished {E : Type 0} (shown : E → Option WirePacket) (sent_in taken_in : E → List WirePacket) (e : Event) (from : Option Peer) (p : Packed)
@@ -19,6 +20,6 @@ pub record Finished {E : Type 0} (shown : E → Option WirePacket) (sent_in take
   pub taken : (q : Peer) → taken_from taken_in new q ≡ taken_from taken_in old q ++ packet_from from (shown_for shown old from) q
 
 -- an event was done, or it was held and nothing was done; yes says which
-abbrev pub Outcome : {E : Type 0} → (E → List WirePacket) → (E → List WirePacket) → (E → Option WirePacket) → (E → ℕ) → (E → ℕ) → Event → NodeLogView E → NodeLogView E → Bool → Type 0
-Outcome sent_in taken_in shown free looks e old new true = IsActed sent_in taken_in e old new
-Outcome sent_in taken_in shown free looks e old new false = IsHeld shown free looks e old new × SameLog sent_in taken_in old new
+abbrev pub Outcome : {E : Type 0} → (E → List WirePacket) → (E → List WirePacket) → (E → Option WirePacket) → (E → ℕ) → (E → ℕ) → (Parcel → Type 0) → Event → NodeLogView E → NodeLogView E → Bool → Type 0
+Outcome sent_in taken_in shown free looks fits e old new true = IsActed sent_in taken_in e old new
+Outcome sent_in taken_in shown free looks fits e old new false = IsHeld shown free looks fits e old new × SameLog sent_in taken_in old new

@@ -5,7 +5,7 @@ use Rattle.log_parts.specs.declared.sending.Addressed.{Addressed}
 use Rattle.log_parts.specs.declared.table.EndRow.{EndRow}
 use Rattle.log_parts.specs.Peers.{same_peer}
 use Rattle.log_parts.specs.Rows.{has_peer, looks_from, sent_to, shown_from, taken_from}
-use Rattle.log_parts.specs.Sending.{LacksRoom, packets_to}
+use Rattle.log_parts.specs.Sending.{AreAddressed, LacksRoom, packets_to}
 use Rattle.frame_laws.specs.Logs.{AreSentAs, StandsAs}
 use Rattle.broker.specs.Events.{MarkerRises, SeekRises, SessionRises}
 use Rattle.client.specs.Counted.{CanConnect, CanCount}
@@ -24,6 +24,7 @@ use Rattle.node_log.specs.Logs.{NodeLogView}
 use Rattle.node_log.specs.Owning.{IsOwn}
 use Rattle.wire_ends.specs.declared.packet.WirePacket.{WirePacket}
 use Rattle.wire_ends.specs.Looks.{Looked}
+use Rattle.wire_ends.specs.Parcels.{Packed as Parcel}
 use Rattle.world_laws.specs.ByteHistories.{ByteEvent, ByteSent, TakenStands}
 
 -- ---- packets
@@ -104,26 +105,27 @@ pub record IsIdleWith {E : Type 0} (shown : E → Option WirePacket) (e : Event)
   pub stands : TakenStands (StandsAs old.scenario.setup.clusters) (shown_for shown new.ends (takes_from old.state e)) said
   pub idle : (acts old.scenario.setup old.state e said).idle ≡ true
 
--- it would send packets for which an end has too few places
-pub record LacksPlaces {E : Type 0} (shown : E → Option WirePacket) (free_of looks_of : E → ℕ) (e : Event) (old new : NodeLogView E) : Type 0 where
+-- it would send packets for which an end has too few places, each in a parcel that is cut as its end cuts them
+pub record LacksPlaces {E : Type 0} (shown : E → Option WirePacket) (free_of looks_of : E → ℕ) (fits : Parcel → Type 0) (e : Event) (old new : NodeLogView E) : Type 0 where
   pub said : Option Packet
   pub stands : TakenStands (StandsAs old.scenario.setup.clusters) (shown_for shown new.ends (takes_from old.state e)) said
   pub sends : List (ByteSent WirePacket)
   pub packets : AreSentAs old.scenario.setup.clusters (next_stamp old.clock said) sends (acts old.scenario.setup old.state e said).sent
   pub parcels : List Addressed
   pub packed : (q : Peer) → packets_to q parcels ≡ packets_of q sends
+  pub addressed : AreAddressed fits new.ends parcels
   pub lacks : LacksRoom free_of looks_of old.ends new.ends parcels
 
 -- Why an event is not done: it is not the node's own; it is idle with the packet that a look in this call showed; a look in this
 -- call found too few places in an end; or a number that it would raise has no room, its stamp would pass 2^63 (own: so that no
--- number of 64 bits wraps). shown, free and looks are those of an end.
-pub data IsHeld {E : Type 0} (shown : E → Option WirePacket) (free looks : E → ℕ) (e : Event) (old new : NodeLogView E) : Type 0 where
-  Elsewhere : (IsOwn old.scenario.setup old.node e → ⊥) → IsHeld shown free looks e old new
-  Idle : IsIdleWith shown e old new → LookedFor looks old.ends new.ends (takes_from old.state e) → IsHeld shown free looks e old new
-  Full : LacksPlaces shown free looks e old new → IsHeld shown free looks e old new
-  NoNumber : (NumbersFit old.scenario.setup old.node old.state e → ⊥) → IsHeld shown free looks e old new
+-- number of 64 bits wraps). shown, free, looks and fits are those of an end.
+pub data IsHeld {E : Type 0} (shown : E → Option WirePacket) (free looks : E → ℕ) (fits : Parcel → Type 0) (e : Event) (old new : NodeLogView E) : Type 0 where
+  Elsewhere : (IsOwn old.scenario.setup old.node e → ⊥) → IsHeld shown free looks fits e old new
+  Idle : IsIdleWith shown e old new → LookedFor looks old.ends new.ends (takes_from old.state e) → IsHeld shown free looks fits e old new
+  Full : LacksPlaces shown free looks fits e old new → IsHeld shown free looks fits e old new
+  NoNumber : (NumbersFit old.scenario.setup old.node old.state e → ⊥) → IsHeld shown free looks fits e old new
   NoStamp : 2 ^ 63 ≤ max old.clock (stamp_in (shown_for shown new.ends (takes_from old.state e)))
-      → LookedFor looks old.ends new.ends (takes_from old.state e) → IsHeld shown free looks e old new
+      → LookedFor looks old.ends new.ends (takes_from old.state e) → IsHeld shown free looks fits e old new
 
 -- the log is as it was, and nothing was sent or taken; what an end shows and how many places it knows may have changed
 pub record SameLog {E : Type 0} (sent_in taken_in : E → List WirePacket) (old new : NodeLogView E) : Type 0 where

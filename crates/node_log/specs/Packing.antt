@@ -38,9 +38,10 @@ pub record IsPacked {E : Type 0} (free : E → ℕ) (fit : Packed → Type 0) (a
   pub room : HasRoom free rs p.parcels.items
 
 -- all was packed, and an end has too few places for it
-pub record LacksFor {E : Type 0} (free looks : E → ℕ) (at : ℕ) (outs : List WireOut) (old new : List (EndRow E)) : Type 0 where
+pub record LacksFor {E : Type 0} (free looks : E → ℕ) (fits : Packed → Type 0) (at : ℕ) (outs : List WireOut) (old new : List (EndRow E)) : Type 0 where
   pub parcels : List Addressed
   pub packed : packed_all parcels ≡ all_sent_at at outs
+  pub addressed : AreAddressed fits new parcels
   pub lacks : LacksRoom free looks old new parcels
 
 -- an event may join the history: it is not idle, its stamp has room, and what it sends is packed. last is the greater of the
@@ -51,7 +52,7 @@ pub record MayJoin {E : Type 0} (free : E → ℕ) (fit : Packed → Type 0) (re
   pub packed : IsPacked free fit (1 + last) outs rs p
 
 -- or it may not; where no end lacks places, no end was asked
-pub data MayNotJoin {E : Type 0} (free looks : E → ℕ) (rests : Bool) (last : ℕ) (outs : List WireOut) (old new : List (EndRow E)) : Type 0 where
-  Rests : rests ≡ true → new ≡ old → MayNotJoin free looks rests last outs old new
-  Late : 2 ^ 63 ≤ last → new ≡ old → MayNotJoin free looks rests last outs old new
-  Lacks : rests ≡ false → LacksFor free looks (1 + last) outs old new → MayNotJoin free looks rests last outs old new
+pub data MayNotJoin {E : Type 0} (free looks : E → ℕ) (fits : Packed → Type 0) (rests : Bool) (last : ℕ) (outs : List WireOut) (old new : List (EndRow E)) : Type 0 where
+  Rests : rests ≡ true → new ≡ old → MayNotJoin free looks fits rests last outs old new
+  Late : 2 ^ 63 ≤ last → new ≡ old → MayNotJoin free looks fits rests last outs old new
+  Lacks : rests ≡ false → LacksFor free looks fits (1 + last) outs old new → MayNotJoin free looks fits rests last outs old new

@@ -24,7 +24,7 @@ impl<E: End> NodeLog<E> {
     /// were.
     pub fn act(&mut self, alloc: Global, event: &Event) -> Result<bool, Memory>
         ensures acted { IfOk result (λ yes. IsTrue yes → IsActed E.sent E.taken event.now self.old self.new) }
-        ensures held { IfOk result (λ yes. IsFalse yes → IsHeld E.shown E.free E.looks event.now self.old self.new) }
+        ensures held { IfOk result (λ yes. IsFalse yes → IsHeld E.shown E.free E.looks E.fits event.now self.old self.new) }
         ensures same { IfOk result (λ yes. IsFalse yes → SameLog E.sent E.taken self.old self.new) }
         ensures err { OnErr result (SameLog E.sent E.taken self.old self.new) }
     {

@@ -32,7 +32,7 @@ pub(crate) fn act_at_broker<E: End>(
 ) -> Result<bool, Memory>
     requires { LogHolds scenario.now.setup (kept.Broker node.old) log.old.history.items log.old.clock ends.old.rows.items }
     ensures holds { LogHolds scenario.now.setup (kept.Broker node.new) log.new.history.items log.new.clock ends.new.rows.items }
-    ensures outcome { IfOk result (Outcome E.sent E.taken E.shown E.free E.looks event.now
+    ensures outcome { IfOk result (Outcome E.sent E.taken E.shown E.free E.looks E.fits event.now
         (log_view scenario.now (kept.Broker node.old) log.old.history.items log.old.clock ends.old.rows.items)
         (log_view scenario.now (kept.Broker node.new) log.new.history.items log.new.clock ends.new.rows.items)) }
     ensures err { OnErr result (SameLog E.sent E.taken
@@ -68,7 +68,7 @@ fn act_by<E: End>(
     requires can { CanHappen node.old event.now }
     requires empty { IsEmptyPlan plan.old }
     ensures holds { LogHolds scenario.now.setup (kept.Broker node.new) log.new.history.items log.new.clock ends.new.rows.items }
-    ensures outcome { IfOk result (Outcome E.sent E.taken E.shown E.free E.looks event.now
+    ensures outcome { IfOk result (Outcome E.sent E.taken E.shown E.free E.looks E.fits event.now
         (log_view scenario.now (kept.Broker node.old) log.old.history.items log.old.clock ends.old.rows.items)
         (log_view scenario.now (kept.Broker node.new) log.new.history.items log.new.clock ends.new.rows.items)) }
     ensures err { OnErr result (SameLog E.sent E.taken

@@ -34,7 +34,7 @@ pub(crate) fn act_at_client<E: End>(
 ) -> Result<bool, Memory>
     requires { LogHolds scenario.now.setup (kept.Client own.old) log.old.history.items log.old.clock ends.old.rows.items }
     ensures holds { LogHolds scenario.now.setup (kept.Client own.new) log.new.history.items log.new.clock ends.new.rows.items }
-    ensures outcome { IfOk result (Outcome E.sent E.taken E.shown E.free E.looks event.now
+    ensures outcome { IfOk result (Outcome E.sent E.taken E.shown E.free E.looks E.fits event.now
         (log_view scenario.now (kept.Client own.old) log.old.history.items log.old.clock ends.old.rows.items)
         (log_view scenario.now (kept.Client own.new) log.new.history.items log.new.clock ends.new.rows.items)) }
     ensures err { OnErr result (SameLog E.sent E.taken
@@ -79,7 +79,7 @@ fn send<E: End>(
     requires numbers { ClientRises own.old.client event.now }
     requires other { IsGet event.now → ⊥ }
     ensures holds { LogHolds scenario.now.setup (kept.Client own.new) log.new.history.items log.new.clock ends.new.rows.items }
-    ensures outcome { IfOk result (Outcome E.sent E.taken E.shown E.free E.looks event.now
+    ensures outcome { IfOk result (Outcome E.sent E.taken E.shown E.free E.looks E.fits event.now
         (log_view scenario.now (kept.Client own.old) log.old.history.items log.old.clock ends.old.rows.items)
         (log_view scenario.now (kept.Client own.new) log.new.history.items log.new.clock ends.new.rows.items)) }
     ensures err { OnErr result (SameLog E.sent E.taken

@@ -37,7 +37,7 @@ pub(crate) fn get<E: End>(
     requires numbers { ClientRises own.old.client event.now }
     requires get { IsGet event.now }
     ensures holds { LogHolds scenario.now.setup (kept.Client own.new) log.new.history.items log.new.clock ends.new.rows.items }
-    ensures outcome { IfOk result (Outcome E.sent E.taken E.shown E.free E.looks event.now
+    ensures outcome { IfOk result (Outcome E.sent E.taken E.shown E.free E.looks E.fits event.now
         (log_view scenario.now (kept.Client own.old) log.old.history.items log.old.clock ends.old.rows.items)
         (log_view scenario.now (kept.Client own.new) log.new.history.items log.new.clock ends.new.rows.items)) }
     ensures err { OnErr result (SameLog E.sent E.taken

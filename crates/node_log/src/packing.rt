@@ -36,7 +36,7 @@ pub(crate) fn make_ready<E: End>(
 ) -> Result<Option<Packed>, Memory>
     requires peers { is_idle ≡ false → GoToPeers ends.old.rows.items outs.items }
     ensures ready { IfOk result (λ o. IfSome o (λ p. MayJoin E.free E.fits is_idle (max log.old.clock shown) outs.items ends.new.rows.items p)) }
-    ensures unready { IfOk result (λ o. IfNone o (MayNotJoin E.free E.looks is_idle (max log.old.clock shown) outs.items ends.old.rows.items ends.new.rows.items)) }
+    ensures unready { IfOk result (λ o. IfNone o (MayNotJoin E.free E.looks E.fits is_idle (max log.old.clock shown) outs.items ends.old.rows.items ends.new.rows.items)) }
     ensures room { IfOk result (λ o. IfSome o (λ p. vec_len log.new.history < vec_capacity log.new.history)) }
     ensures history { log.new.history.items ≡ log.old.history.items }
     ensures clock { log.new.clock ≡ log.old.clock }
@@ -65,7 +65,7 @@ fn pack_ready<E: End>(
 ) -> Result<Option<Packed>, Memory>
     requires peers { GoToPeers ends.old.rows.items outs.items }
     ensures packed { IfOk result (λ o. IfSome o (λ p. IsPacked E.free E.fits stamp outs.items ends.new.rows.items p)) }
-    ensures full { IfOk result (λ o. IfNone o (LacksFor E.free E.looks stamp outs.items ends.old.rows.items ends.new.rows.items)) }
+    ensures full { IfOk result (λ o. IfNone o (LacksFor E.free E.looks E.fits stamp outs.items ends.old.rows.items ends.new.rows.items)) }
     ensures room { IfOk result (λ o. IfSome o (λ p. vec_len log.new.history < vec_capacity log.new.history)) }
     ensures history { log.new.history.items ≡ log.old.history.items }
     ensures clock { log.new.clock ≡ log.old.clock }

@@ -8,7 +8,7 @@ returns-then-not-is_brokers-clause-holds g c = c.requires
 pub returns-then-not-is_brokers-clause-outcome : goal.returns-then-not-is_brokers-clause-outcome
 returns-then-not-is_brokers-clause-outcome g c =
     let fails : c.is_brokers.result ≡ false = (let said = c.if-not-is_brokers.true in first_of (cc, search rules, grind (arith, said))) in
-    broker_elsewhere c.args.scenario.now c.args.node.now c.args.log.now.history.items c.args.log.now.clock c.args.ends.now.rows.items c.args.event.now g.E.End.sent g.E.End.taken g.E.End.shown g.E.End.free g.E.End.looks c.is_brokers.result c.is_brokers.ensures fails
+    broker_elsewhere c.args.scenario.now c.args.node.now c.args.log.now.history.items c.args.log.now.clock c.args.ends.now.rows.items c.args.event.now g.E.End.sent g.E.End.taken g.E.End.shown g.E.End.free g.E.End.looks g.E.End.fits c.is_brokers.result c.is_brokers.ensures fails
 
 pub returns-then-not-accepts-clause-holds : goal.returns-then-not-accepts-clause-holds
 returns-then-not-accepts-clause-holds g c = c.requires
@@ -17,7 +17,7 @@ pub returns-then-not-accepts-clause-outcome : goal.returns-then-not-accepts-clau
 returns-then-not-accepts-clause-outcome g c =
     let here : c.is_brokers.result ≡ true = (let said = c.if-not-is_brokers.false in first_of (cc, search rules, grind (arith, said))) in
     let fails : c.accepts.result ≡ false = (let said = c.if-not-accepts.true in first_of (cc, search rules, grind (arith, said))) in
-    broker_no_number c.args.scenario.now c.args.node.now c.args.log.now.history.items c.args.log.now.clock c.args.ends.now.rows.items c.args.event.now g.E.End.sent g.E.End.taken g.E.End.shown g.E.End.free g.E.End.looks c.is_brokers.result c.accepts.result
+    broker_no_number c.args.scenario.now c.args.node.now c.args.log.now.history.items c.args.log.now.clock c.args.ends.now.rows.items c.args.event.now g.E.End.sent g.E.End.taken g.E.End.shown g.E.End.free g.E.End.looks g.E.End.fits c.is_brokers.result c.accepts.result
     c.requires c.is_brokers.ensures here c.accepts.ensures fails
 
 pub act_by-acted-requires-clause-holds : goal.act_by-acted-requires-clause-holds

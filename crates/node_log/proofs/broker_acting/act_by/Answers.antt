@@ -14,7 +14,7 @@ make_ready-requires g c = record {
 pub returns-in_default-clause-outcome : goal.returns-in_default-clause-outcome
 returns-in_default-clause-outcome g c =
     broker_held c.args.scenario.now c.args.node.now c.look.new.node c.args.log.now.history.items c.make_ready.new.log.history.items c.args.log.now.clock c.make_ready.new.log.clock c.args.event.now
-    g.E.End.sent g.E.End.taken g.E.End.shown g.E.End.free g.E.End.looks c.taken_from-from.result c.in_ok-shown.shown c.look.new.plan c.take_sent.new.self c.is_idle.result c.into_vec-outs.result.items
+    g.E.End.sent g.E.End.taken g.E.End.shown g.E.End.free g.E.End.looks g.E.End.fits c.taken_from-from.result c.in_ok-shown.shown c.look.new.plan c.take_sent.new.self c.is_idle.result c.into_vec-outs.result.items
     c.args.ends.now.rows.items c.look.new.ends.rows.items c.make_ready.new.ends.rows.items c.in_ok-packed.field-0 c.requires.holds c.requires.at c.requires.can
     c.taken_from-from.ensures c.in_ok-shown.ensures.looked c.look.ensures.broker c.look.ensures.node c.in_ok-shown.ensures.looks c.look.ensures.rise c.look.ensures.sends c.look.ensures.taken
     c.take_sent.ensures.rest c.is_idle.ensures (c.into_vec-outs.ensures.items ∙ c.take_sent.ensures.sent) c.in_default.is c.in_ok-packed.ensures.unready c.make_ready.ensures.sends c.make_ready.ensures.takes c.make_ready.ensures.history c.make_ready.ensures.clock

@@ -8,7 +8,7 @@ returns-then-not-is_clients-clause-holds g c = c.requires
 pub returns-then-not-is_clients-clause-outcome : goal.returns-then-not-is_clients-clause-outcome
 returns-then-not-is_clients-clause-outcome g c =
     let fails : c.is_clients.result ≡ false = (let said = c.if-not-is_clients.true in first_of (cc, search rules, grind (arith, said))) in
-    client_elsewhere c.args.scenario.now c.args.own.now c.args.log.now.history.items c.args.log.now.clock c.args.ends.now.rows.items c.args.event.now g.E.End.sent g.E.End.taken g.E.End.shown g.E.End.free g.E.End.looks c.is_clients.result c.is_clients.ensures fails
+    client_elsewhere c.args.scenario.now c.args.own.now c.args.log.now.history.items c.args.log.now.clock c.args.ends.now.rows.items c.args.event.now g.E.End.sent g.E.End.taken g.E.End.shown g.E.End.free g.E.End.looks g.E.End.fits c.is_clients.result c.is_clients.ensures fails
 
 pub returns-then-not-can_raise-clause-holds : goal.returns-then-not-can_raise-clause-holds
 returns-then-not-can_raise-clause-holds g c = c.requires
@@ -16,7 +16,7 @@ returns-then-not-can_raise-clause-holds g c = c.requires
 pub returns-then-not-can_raise-clause-outcome : goal.returns-then-not-can_raise-clause-outcome
 returns-then-not-can_raise-clause-outcome g c =
     let fails : c.can_raise.result ≡ false = (let said = c.if-not-can_raise.true in first_of (cc, search rules, grind (arith, said))) in
-    client_no_number c.args.scenario.now c.args.own.now c.args.log.now.history.items c.args.log.now.clock c.args.ends.now.rows.items c.args.event.now g.E.End.sent g.E.End.taken g.E.End.shown g.E.End.free g.E.End.looks c.can_raise.result c.can_raise.ensures fails
+    client_no_number c.args.scenario.now c.args.own.now c.args.log.now.history.items c.args.log.now.clock c.args.ends.now.rows.items c.args.event.now g.E.End.sent g.E.End.taken g.E.End.shown g.E.End.free g.E.End.looks g.E.End.fits c.can_raise.result c.can_raise.ensures fails
 
 pub get-requires-clause-holds : goal.get-requires-clause-holds
 get-requires-clause-holds g c = c.requires

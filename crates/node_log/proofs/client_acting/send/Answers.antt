@@ -13,7 +13,7 @@ make_ready-requires g c = record {
 pub returns-in_default-clause-outcome : goal.returns-in_default-clause-outcome
 returns-in_default-clause-outcome g c =
     client_held c.args.scenario.now c.args.own.now c.args.log.now.history.items c.make_ready.new.log.history.items c.args.log.now.clock c.make_ready.new.log.clock c.args.event.now g.E.End.sent g.E.End.taken g.E.End.shown
-    g.E.End.free g.E.End.looks c.in_ok-prepared.prepared c.take_sent.new.self c.is_idle.result c.into_vec-outs.result.items c.args.ends.now.rows.items c.make_ready.new.ends.rows.items c.in_ok-packed.field-0
+    g.E.End.free g.E.End.looks g.E.End.fits c.in_ok-prepared.prepared c.take_sent.new.self c.is_idle.result c.into_vec-outs.result.items c.args.ends.now.rows.items c.make_ready.new.ends.rows.items c.in_ok-packed.field-0
     c.requires.at c.requires.other c.in_ok-prepared.ensures.seen c.take_sent.ensures.rest c.is_idle.ensures (c.into_vec-outs.ensures.items ∙ c.take_sent.ensures.sent) c.in_default.is c.in_ok-packed.ensures.unready c.make_ready.ensures.sends
     c.make_ready.ensures.takes c.make_ready.ensures.history c.make_ready.ensures.clock
 

@@ -6,7 +6,7 @@ use Rattle.node_log.proofs.getting.get.Goals as goal
 
 pub returns-in_default-clause-outcome : goal.returns-in_default-clause-outcome
 returns-in_default-clause-outcome g c =
-    get_held c.args.scenario.now c.args.own.now c.get_from.new.own c.args.log.now.history.items c.reserve.new.self.items c.args.log.now.clock c.args.event.now g.E.End.sent g.E.End.taken g.E.End.shown g.E.End.free g.E.End.looks
+    get_held c.args.scenario.now c.args.own.now c.get_from.new.own c.args.log.now.history.items c.reserve.new.self.items c.args.log.now.clock c.args.event.now g.E.End.sent g.E.End.taken g.E.End.shown g.E.End.free g.E.End.looks g.E.End.fits
     c.view.result (peer.Broker c.view.result.cluster) c.args.ends.now.rows.items c.get_from.new.ends.rows.items c.in_ok-last.field-0 c.requires.get c.view.ensures refl c.in_default.is
     c.in_ok-last.ensures.none c.in_ok-last.ensures.stays c.in_ok-last.ensures.looks c.get_from.ensures.sends c.get_from.ensures.taken c.reserve.ensures.items
 

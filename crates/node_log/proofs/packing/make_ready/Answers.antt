@@ -14,5 +14,5 @@ pub returns-clause-unready : goal.returns-clause-unready
 returns-clause-unready g c =
     let last_is : c.max-last.result ≡ max c.args.log.now.clock c.args.shown = first_of (cc, search rules, grind arith) in
     let on : c.args.is_idle ≡ false = first_of (cc, search rules, grind arith) in
-    lacks_join g.E.End.free g.E.End.looks c.args.is_idle c.new.result (max c.args.log.now.clock c.args.shown) c.args.outs.items c.args.ends.now.rows.items c.pack_ready.new.ends.rows.items c.pack_ready.result on
+    lacks_join g.E.End.free g.E.End.looks g.E.End.fits c.args.is_idle c.new.result (max c.args.log.now.clock c.args.shown) c.args.outs.items c.args.ends.now.rows.items c.pack_ready.new.ends.rows.items c.pack_ready.result on
     (c.new.ensures ∙ ap (λ (n : ℕ). 1 + n) last_is) c.pack_ready.ensures.full

@@ -14,6 +14,7 @@ returns-then-not-has_room-clause-full g c =
     record {
       parcels = c.in_ok-packed.packed.parcels.items;
       packed = c.in_ok-packed.ensures.parcels;
+      addressed = still_addressed g.E.End.fits c.pack_all.new.ends.rows.items c.has_room.new.self.rows.items c.in_ok-packed.packed.parcels.items c.in_ok-packed.ensures.addressed c.has_room.ensures.peers;
       lacks = lacks_since g.E.End.free g.E.End.looks c.args.ends.now.rows.items c.pack_all.new.ends.rows.items c.has_room.new.self.rows.items c.in_ok-packed.packed.parcels.items c.pack_all.ensures.looks
           (rw (← same) (c.has_room.ensures.few full));
     }
