@@ -15,6 +15,7 @@ ghost use Rattle.broker_packets.specs.UsualSends.{IsBrought, Receives};
 use broker_plans::{Answered, Came, also_receipt, is_small, storing_message};
 use broker_state::{BrokerState, Plan};
 use frame_values::number_of;
+use geo_base::limits::CLUSTERS;
 use geo_base::{ClusterName, Memory, Peer};
 use pulsar_frames::MessageView;
 use replicator::Taken;
@@ -49,7 +50,7 @@ fn is_brought(state: &BrokerState, source: u32, message: MessageView<'_>) -> boo
 
 /// Whether a name, which may be absent, names a cluster.
 fn is_from(names: &[ClusterName], cluster: u32, name: Option<&str>) -> bool
-    requires { length names.now ≤ 8 }
+    requires { length names.now ≤ CLUSTERS }
     ensures { result ≡ is_from cluster (option_map (place_of names.now) (option_copied name.entry)) }
 {
     let Some(name) = name else {

@@ -5,6 +5,7 @@ ghost use Rattle.geo_base.specs.Broker.{cluster_name};
 ghost use Rattle.geo_base.specs.Forwarding.{is_remote, link_producer};
 ghost use Rattle.broker_state.specs.Site.{IsNameLong, IsSite};
 
+use geo_base::limits::CLUSTERS;
 use geo_base::{ClusterName, Memory, Text, TopicName};
 use std::alloc::Global;
 use std::marker::Model;
@@ -34,7 +35,7 @@ impl Site {
     /// The site of the broker of a topic at a cluster, one of at most eight.
     pub fn new(own: u32, clusters: Vec<ClusterName>, topic: TopicName, per_ledger: u64) -> Site
         requires own { own < length clusters.items }
-        requires few { length clusters.items ≤ 8 }
+        requires few { length clusters.items ≤ CLUSTERS }
         ensures { result ≡ record { own = own; clusters = clusters.items; topic = topic; per_ledger = per_ledger } }
     {
         see_names(clusters.as_slice());

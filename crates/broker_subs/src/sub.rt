@@ -173,7 +173,7 @@ impl Sub {
         self.dispatcher.on_ack(client, id, kind)
     }
 
-    /// What an offer does: nothing, it passes over the marker that is due first, or it gives the message that is due first to the
+    /// What an offer does: nothing, it skips the marker that is due first, or it gives the message that is due first to the
     /// consumer at a place.
     #[tactic(auto, using(crate::proofs::Asked::same_choice))]
     pub fn choice<S: EntryStore>(&self, store: &S) -> Choice

@@ -13,6 +13,7 @@ ghost use Rattle.broker_plans.specs.Storable.{most_id};
 use crate::act::begin_marker;
 use crate::markers::request;
 use broker_state::{BoxedBuilder, BrokerState, Plan, StateChange};
+use geo_base::limits::NAME_BYTES;
 use geo_base::{EntryStore, Memory, Position, Text};
 use replicated_subs::SnapshotBuilder;
 use std::alloc::Global;
@@ -71,7 +72,7 @@ fn ask(alloc: Global, state: &BrokerState, id: &Text, plan: &mut Plan) -> Result
 /// A snapshot's id: the cluster's name and the position of its request, as `a:0:1` (own).
 #[tactic(auto, using(crate::proofs::Sizes::short_id))]
 fn snapshot_id(alloc: Global, cluster: &str, position: Position) -> Result<Text, Memory>
-    requires { length cluster.now ≤ 16 }
+    requires { length cluster.now ≤ NAME_BYTES }
     ensures id { IfOk result (λ id. id ≡ snapshot_id cluster.now position) }
     ensures short { IfOk result (λ id. length id ≤ most_id) }
 {

@@ -9,6 +9,7 @@ ghost use Rattle.pulsar_frames.specs.Streams.{fresh};
 
 use crate::output::{put_bytes_line, put_hex, put_line};
 use frame_values::{is_readable, read_value, try_write_value};
+use geo_base::limits::CLUSTERS;
 use geo_base::{Blob, ClusterName, Frame as Value, Memory};
 use marker_codec::{Marker, MarkerFault};
 use message_meta::{Meta, MetaFault};
@@ -211,7 +212,7 @@ fn value_answer(alloc: Global, bytes: &[u8]) -> Result<Answer, Memory>
 
 /// The same under these names.
 fn named_answer(alloc: Global, names: &[ClusterName], bytes: &[u8]) -> Result<Answer, Memory>
-    requires { length names.now ≤ 8 }
+    requires { length names.now ≤ CLUSTERS }
     ensures { IfOk result (IsValueAnswer names.now bytes.now) }
 {
     match read_value(alloc, names, bytes) {

@@ -3,7 +3,7 @@ use Rattle.std.specs.Prelude.{◌+◌, ◌<◌, ◌^◌, true, not, List, [], �
 use Rattle.geo_base.specs.declared.client.Held.{Held}
 use Rattle.geo_base.specs.declared.packet.Out.{Out}
 use Rattle.geo_base.specs.Client.{Acted, Client, connected_to}
-use Rattle.geo_base.specs.Going.{most_acks, past, without_first}
+use Rattle.geo_base.specs.Going.{most_acks, most_unanswered, past, without_first}
 use Rattle.geo_base.specs.Position.{position_le}
 use Rattle.client.specs.declared.client.change.ClientChange.{ClientChange}
 use Rattle.client.specs.declared.client.change.ClientChange.TheVariants as change
@@ -40,7 +40,7 @@ acted p k = record { idle = not (is_some p.change); client = client_after p.chan
 
 -- the window has room, and no number comes to its end
 abbrev pub ChangeFits : ClientChange → Client → Type 0
-ChangeFits change.Publishes k = (k.done + 1 < 2 ^ 64) × (length k.unanswered < 256)
+ChangeFits change.Publishes k = (k.done + 1 < 2 ^ 64) × (length k.unanswered < most_unanswered)
 ChangeFits (change.Moves x) k = (k.done + 1 < 2 ^ 64) × (k.connection + 1 < 2 ^ 64)
 ChangeFits change.Reconnects k = k.connection + 1 < 2 ^ 64
 ChangeFits c k = k.done + 1 < 2 ^ 64

@@ -55,6 +55,7 @@ pub struct Client {
 }
 
 impl Model for Client {
+    ghost use Rattle.geo_base.specs.Going.{most_unanswered};
     ghost use Rattle.std.specs.Prelude.{◌≤◌, vec_capacity};
     ghost use Rattle.geo_base.specs.Client.{Client};
 
@@ -76,7 +77,7 @@ impl Model for Client {
       got = k.got.items;
     } };
 
-    ghost invariant = { λ k. 256 ≤ vec_capacity k.unanswered };
+    ghost invariant = { λ k. most_unanswered ≤ vec_capacity k.unanswered };
 }
 
 impl Client {

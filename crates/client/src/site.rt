@@ -6,7 +6,7 @@ ghost use Rattle.geo_base.specs.Name.{is_name};
 ghost use Rattle.geo_base.specs.Setup.{topic_name};
 ghost use Rattle.client.specs.Site.{is_short_line, known_setup};
 
-use geo_base::limits::CLUSTERS;
+use geo_base::limits::{CLUSTERS, NAME_BYTES};
 use geo_base::{ClusterName, Line, ProducerName, TopicName};
 use std::marker::Model;
 
@@ -23,6 +23,7 @@ pub struct ClientSite<'a> {
 }
 
 impl<'a> Model for ClientSite<'a> {
+    ghost use Rattle.geo_base.specs.Scripted.{most_clusters};
     ghost use Rattle.std.specs.Prelude.{◌≡◌, ◌≤◌, true, length};
     ghost use Rattle.std.specs.List.{list_all};
     ghost use Rattle.geo_base.specs.Name.{is_name};
@@ -35,7 +36,7 @@ impl<'a> Model for ClientSite<'a> {
       declared = record { name = s.name.now; topic = s.topic; cluster = s.cluster; lines = s.lines.now };
     } };
 
-    ghost invariant = { λ s. (length s.clusters.now ≤ 8) × ((list_all is_name s.clusters.now ≡ true) × ((is_name s.name.now ≡ true) × (list_all is_short_line s.lines.now ≡ true))) };
+    ghost invariant = { λ s. (length s.clusters.now ≤ most_clusters) × ((list_all is_name s.clusters.now ≡ true) × ((is_name s.name.now ≡ true) × (list_all is_short_line s.lines.now ≡ true))) };
 }
 
 impl<'a> ClientSite<'a> {
@@ -85,7 +86,7 @@ impl<'a> ClientSite<'a> {
     /// The name of the client's topic; empty where its number is no topic's.
     pub fn topic_name(&self) -> &str
         ensures name { result.now ≡ topic_name self.now.setup self.now.declared.topic }
-        ensures short { length result.now ≤ 16 }
+        ensures short { length result.now ≤ NAME_BYTES }
     {
         match self.topics.get(self.topic as usize) {
             Some(name) => name.as_str(),

@@ -32,10 +32,17 @@ no_range = record { first = 0; last = 0 }
 abbrev pub end_of : List IndexRange → ℕ
 end_of b = (get_or b (length b - 1) no_range).last
 
+-- how many ranges a block has room for, and each half of a full one
+abbrev pub most_ranges : ℕ
+most_ranges = 64
+
+abbrev pub half_ranges : ℕ
+half_ranges = 32
+
 -- how many ranges blocks have above half of what they have room for
 abbrev pub excess : List (List IndexRange) → ℕ
 excess [] = 0
-excess (b ∷ bs) = length b - 32 + excess bs
+excess (b ∷ bs) = length b - half_ranges + excess bs
 
 -- the blocks before the last one: none is empty, and their excess is counted
 pub record AreCounted (bs : List (List IndexRange)) (over : ℕ) : Type 0 where
@@ -59,22 +66,22 @@ pub record IsFound (bs : List (List IndexRange)) (p : RangeIndex) : Type 0 where
 
 -- a block in two halves
 abbrev pub split_at : List (List IndexRange) → ℕ → List (List IndexRange)
-split_at bs k = take k bs ++ take 32 (get_or bs k []) ∷ drop 32 (get_or bs k []) ∷ drop (suc k) bs
+split_at bs k = take k bs ++ take half_ranges (get_or bs k []) ∷ drop half_ranges (get_or bs k []) ∷ drop (suc k) bs
 
 -- how many more ranges the last block has room for, counted up to half a block
 abbrev pub last_room : ℕ → ℕ → ℕ
-last_room cap len = min (min cap 64 - len) 32
+last_room cap len = min (min cap most_ranges - len) half_ranges
 
--- how many more ranges need no memory. A free block serves 32 of them: one that is split leaves two halves, each with
--- room for 32. What blocks have above their half is used up.
+-- how many more ranges need no memory. A free block serves half of them: one that is split leaves two halves, each with
+-- room for a half. What blocks have above their half is used up.
 abbrev pub spare_of : List (List IndexRange) → ℕ → ℕ → ℕ → ℕ
-spare_of before free cap len = 32 * free + last_room cap len - excess before
+spare_of before free cap len = half_ranges * free + last_room cap len - excess before
 
 -- the parts of a list of ranges: the blocks before the last, the last with its capacity, and free blocks, for each of which
 -- there is room among the blocks before the last
 pub record AreParts (before : List (List IndexRange)) (room : ℕ) (last : List IndexRange) (cap : ℕ) (free : List (List IndexRange)) : Type 0 where
-  pub short : length last ≤ 64
-  pub wide : 0 < length before + length free → 64 ≤ cap
+  pub short : length last ≤ most_ranges
+  pub wide : 0 < length before + length free → most_ranges ≤ cap
   pub kept : length free ≤ room
   pub few : length free < 2 ^ 32
   pub empty : All (λ (b : List IndexRange). b ≡ []) free

@@ -22,13 +22,14 @@ pub(crate) struct RangeBlock {
 
 impl Model for RangeBlock {
     ghost use Rattle.std.specs.Prelude.{List, ◌≤◌, length, vec_capacity};
+    ghost use Rattle.cursor_acks.specs.Blocks.{most_ranges};
     ghost use Rattle.cursor_acks.specs.declared.range.IndexRange.{IndexRange};
 
     ghost Value = { List IndexRange };
 
     ghost view = { λ b. b.items.items };
 
-    ghost invariant = { λ b. (64 ≤ vec_capacity b.items) × (length b.items.items ≤ 64) };
+    ghost invariant = { λ b. (most_ranges ≤ vec_capacity b.items) × (length b.items.items ≤ most_ranges) };
 }
 
 impl RangeBlock {
@@ -43,7 +44,7 @@ impl RangeBlock {
     /// The ranges as a slice.
     pub(crate) fn as_slice(&self) -> &[IndexRange]
         ensures ranges { result.now ≡ self.now }
-        ensures most { length result.now ≤ 64 }
+        ensures most { length result.now ≤ MOST }
     {
         self.items.as_slice()
     }
@@ -51,7 +52,7 @@ impl RangeBlock {
     /// How many ranges there are.
     pub(crate) fn len(&self) -> usize
         ensures len { result ≡ length self.now }
-        ensures most { result ≤ 64 }
+        ensures most { result ≤ MOST }
     {
         self.items.len()
     }
@@ -78,7 +79,7 @@ impl RangeBlock {
     /// One range more at a range_index.
     pub(crate) fn insert(&mut self, at: usize, range: IndexRange)
         requires within { at ≤ length self.old }
-        requires room { length self.old < 64 }
+        requires room { length self.old < MOST }
         ensures { self.new ≡ take at self.old ++ range ∷ drop at self.old }
     {
         match self.items.insert(at, range) {
@@ -105,10 +106,10 @@ impl RangeBlock {
 
     /// A full block gives its lower half to an empty one.
     pub(crate) fn give_half(&mut self, lower: &mut RangeBlock)
-        requires full { length self.old ≡ 64 }
+        requires full { length self.old ≡ MOST }
         requires empty { lower.old ≡ [] }
-        ensures upper { self.new ≡ drop 32 self.old }
-        ensures lower { lower.new ≡ take 32 self.old }
+        ensures upper { self.new ≡ drop HALF self.old }
+        ensures lower { lower.new ≡ take HALF self.old }
     {
         lower.take_half(&mut self.items);
     }
@@ -116,9 +117,9 @@ impl RangeBlock {
     /// An empty block takes the lower half of so many ranges as fill a block.
     pub(crate) fn take_half(&mut self, from: &mut Vec<IndexRange>)
         requires empty { self.old ≡ [] }
-        requires full { length from.old.items ≡ 64 }
-        ensures lower { self.new ≡ take 32 from.old.items }
-        ensures upper { from.new.items ≡ drop 32 from.old.items }
+        requires full { length from.old.items ≡ MOST }
+        ensures lower { self.new ≡ take HALF from.old.items }
+        ensures upper { from.new.items ≡ drop HALF from.old.items }
         ensures capacity { vec_capacity from.new ≡ vec_capacity from.old }
     {
         match self.items.extend_from_slice(&from[..HALF]) {

@@ -4,7 +4,7 @@ ghost use Rattle.std.specs.List.{All};
 ghost use Rattle.cursor_acks.specs.Blocks.{end_of, excess, joined, split_at};
 ghost use Rattle.cursor_acks.specs.RangeIndexes.{AreKept};
 
-use crate::block::{HALF, RangeBlock};
+use crate::block::{HALF, MOST, RangeBlock};
 use crate::range::IndexRange;
 use geo_base::Memory;
 use std::alloc::Global;
@@ -60,7 +60,7 @@ impl Blocks {
         requires { block < length self.now.list }
         ensures ranges { result.now ≡ slice_index_or self.now.list block [] }
         ensures some { 0 < length result.now }
-        ensures most { length result.now ≤ 64 }
+        ensures most { length result.now ≤ MOST }
     {
         self.items[block].as_slice()
     }
@@ -94,7 +94,7 @@ impl Blocks {
     pub(crate) fn insert(&mut self, block: usize, offset: usize, range: IndexRange)
         requires block { block < length self.old.list }
         requires offset { offset ≤ length (slice_index_or self.old.list block []) }
-        requires full { length (slice_index_or self.old.list block []) < 64 }
+        requires full { length (slice_index_or self.old.list block []) < MOST }
         requires few { excess self.old.list + 1 < 2 ^ 64 }
         ensures list { self.new.list ≡ slice_set self.old.list block (take offset (slice_index_or self.old.list block []) ++ range ∷ drop offset (slice_index_or self.old.list block [])) }
         ensures room { self.new.room ≡ self.old.room }
@@ -149,7 +149,7 @@ impl Blocks {
     /// A full block is split into halves, of which an empty block takes the lower one.
     pub(crate) fn split(&mut self, block: usize, mut lower: RangeBlock)
         requires block { block < length self.old.list }
-        requires full { length (slice_index_or self.old.list block []) ≡ 64 }
+        requires full { length (slice_index_or self.old.list block []) ≡ MOST }
         requires empty { lower ≡ [] }
         requires room { 0 < self.old.room }
         ensures list { self.new.list ≡ split_at self.old.list block }
@@ -166,7 +166,7 @@ impl Blocks {
     /// A block after the others, of at most half of what it has room for.
     pub(crate) fn push(&mut self, block: RangeBlock)
         requires some { 0 < length block }
-        requires half { length block ≤ 32 }
+        requires half { length block ≤ HALF }
         requires room { 0 < self.old.room }
         ensures list { self.new.list ≡ self.old.list ++ block ∷ [] }
         ensures room { self.new.room + 1 ≡ self.old.room }
@@ -198,7 +198,7 @@ impl Blocks {
 
 /// How many of so many ranges are above half of what a block has room for.
 fn above_half(len: usize) -> usize
-    ensures { result ≡ len - 32 }
+    ensures { result ≡ len - HALF }
 {
     len.saturating_sub(HALF)
 }

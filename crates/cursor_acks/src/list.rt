@@ -66,7 +66,7 @@ impl RangeList {
         requires { block < length self.now.blocks }
         ensures ranges { result.now ≡ slice_index_or self.now.blocks block [] }
         ensures some { block + 1 < length self.now.blocks → 0 < length result.now }
-        ensures most { length result.now ≤ 64 }
+        ensures most { length result.now ≤ MOST }
         ensures few { block < 2 ^ 63 }
         ensures joined { self.now.list ≡ joined self.now.blocks }
     {
@@ -274,7 +274,7 @@ impl RangeList {
         ensures slot { IsSlot self.new.blocks result }
         ensures list { self.new.list ≡ self.old.list }
         ensures flat { flat self.new.blocks result ≡ flat self.old.blocks at }
-        ensures room { length (slice_index_or self.new.blocks result.block []) < 64 }
+        ensures room { length (slice_index_or self.new.blocks result.block []) < MOST }
         ensures spare { self.new.spare ≡ self.old.spare }
     {
         if self.block(at.block).len() < MOST {
@@ -293,9 +293,9 @@ impl RangeList {
     /// Splits a full block into two halves.
     fn split(&mut self, block: usize)
         requires block { block < length self.old.blocks }
-        requires full { length (slice_index_or self.old.blocks block []) ≡ 64 }
+        requires full { length (slice_index_or self.old.blocks block []) ≡ MOST }
         requires room { 0 < self.old.spare }
-        ensures full { length (slice_index_or self.old.blocks block []) ≡ 64 }
+        ensures full { length (slice_index_or self.old.blocks block []) ≡ MOST }
         ensures blocks { self.new.blocks ≡ split_at self.old.blocks block }
         ensures list { self.new.list ≡ self.old.list }
         ensures spare { self.new.spare ≡ self.old.spare }
@@ -315,7 +315,7 @@ impl RangeList {
     /// One range more at a range_index of a block that is not full.
     fn put_in(&mut self, at: RangeIndex, range: IndexRange)
         requires slot { IsSlot self.old.blocks at }
-        requires full { length (slice_index_or self.old.blocks at.block []) < 64 }
+        requires full { length (slice_index_or self.old.blocks at.block []) < MOST }
         requires room { 0 < self.old.spare }
         ensures list { self.new.list ≡ take (flat self.old.blocks at) self.old.list ++ range ∷ drop (flat self.old.blocks at) self.old.list }
         ensures spare { self.old.spare ≤ self.new.spare + 1 }
@@ -371,7 +371,7 @@ impl RangeList {
 /// How many more ranges the last block has room for, counted up to half a block.
 fn last_room(capacity: usize, len: usize) -> usize
     requires within { len ≤ capacity }
-    requires short { len ≤ 64 }
+    requires short { len ≤ MOST }
     ensures { result ≡ last_room capacity len }
 {
     (capacity.min(MOST) - len).min(HALF)
@@ -379,9 +379,9 @@ fn last_room(capacity: usize, len: usize) -> usize
 
 /// How many ranges a last block of `len` has room for, after so many blocks.
 fn room_for(blocks: usize, len: usize) -> usize
-    requires { len ≤ 64 }
+    requires { len ≤ MOST }
     ensures within { len ≤ result }
-    ensures wide { 0 < blocks → result ≡ 64 }
+    ensures wide { 0 < blocks → result ≡ MOST }
 {
     if blocks == 0 { len } else { MOST }
 }

@@ -65,7 +65,7 @@ one_consumer base m [] h = λ i j d a b. absurd (omega arith)
 one_consumer base m (g ∷ gs) h =
     AllPairs-cons (λ (g h : GivenTo). OneConsumer g h) g gs (one_of_each base (g.index + 1) m g gs h.0 h.1) (one_consumer base (g.index + 1) gs h.1)
 
--- what an offer may do: nothing, pass over the index that is due first, or give it to the consumer that its key names
+-- what an offer may do: nothing, skip the index that is due first, or give it to the consumer that its key names
 pub data Shape (d : Dispatch) (cursor : List ℕ) (es : List Entry) (c : Choice) : Type 0 where
   Nothing : c ≡ does.Idle → Shape d cursor es c
   Skips : (i : ℕ) → least_due (sub_with cursor d) (length es) ≡ Some i → c ≡ does.Skip i → Shape d cursor es c

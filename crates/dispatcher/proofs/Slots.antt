@@ -177,6 +177,15 @@ pub length_with_out : (os : List Unacked) (o : Unacked) → length (with_out os 
 length_with_out [] o = omega arith
 length_with_out (x ∷ xs) o = omega (arith, longer (nat_lt o.index x.index) (x.index == o.index) o x xs (with_out xs o) (length_with_out xs o))
 
+no_shorter : (a b : Bool) (o x : Unacked) (xs ys : List Unacked) → length xs ≤ length ys → length xs + 1 ≤ length (if a then o ∷ x ∷ xs else if b then o ∷ xs else x ∷ ys)
+no_shorter true b o x xs ys h = omega arith
+no_shorter false true o x xs ys h = omega arith
+no_shorter false false o x xs ys h = omega (arith, h)
+
+pub more_with_out : (os : List Unacked) (o : Unacked) → length os ≤ length (with_out os o)
+more_with_out [] o = omega arith
+more_with_out (x ∷ xs) o = omega (arith, no_shorter (nat_lt o.index x.index) (x.index == o.index) o x xs (with_out xs o) (more_with_out xs o))
+
 -- ---- what is out at a place, where no slot is empty
 
 first_at : (o : Option ℕ) (i : ℕ) (os : List Unacked) (e : Unacked) → emptiness o ≡ 0 → out_before o i [] ≡ get_or (out_before o i os) 0 e ∷ []

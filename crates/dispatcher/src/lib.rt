@@ -1,7 +1,7 @@
 //! The dispatcher of a subscription: which entry is offered next, and to which consumer (Pulsar manual, subscription types).
 //!
 //! The program's broker looks before it writes anything, by `busy`, `choice`, `on_ack`, `has_consumer` and `is_attached`, and does the
-//! bare steps after (`join`, `permit`, `pass`, `give`, `leave`, `seek`, `forget`, `forget_each`, `forget_to`). For other teams are
+//! bare steps after (`join`, `permit`, `skip`, `give`, `leave`, `seek`, `forget`, `forget_each`, `forget_to`). For other teams are
 //! `attach`, `permits`, `offer` and `detach`, each such a look and its step in one call; `next_offer`, which is `choice` told by the consumer's
 //! id; `redeliver`, which is `leave` of consumers that stay; and `PlainPick`.
 //!

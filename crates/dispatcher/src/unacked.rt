@@ -7,7 +7,8 @@ ghost use Rattle.geo_base.specs.Dispatcher.{with_out};
 ghost use Rattle.geo_base.specs.Subscription.{out_with};
 ghost use Rattle.geo_base.specs.Ascending.{IsAscending, IsGap, IsHere};
 ghost use Rattle.dispatcher.specs.declared.slot.Slot.{Slot};
-ghost use Rattle.dispatcher.specs.Slots.{outs_of, slot_index};
+ghost use Rattle.dispatcher.specs.Slots.{empties, outs_of, slot_index};
+ghost use Rattle.dispatcher.specs.Tables.{FewEmpty};
 
 use crate::slot::Slot;
 use cursor_acks::Cursor;
@@ -20,7 +21,8 @@ use std::marker::Model;
 const FEW: usize = 64;
 
 /// What is out, ascending by index. An index is found by binary search. One that is taken out in the midst leaves its slot empty, so that
-/// nothing is moved; once most slots are empty these go in one walk, which is at most two slots for each that was emptied since the last.
+/// nothing is moved; once most slots are empty these go in one walk, which is at most two slots for each that was emptied since the last; so after each
+/// step no more slots are empty than are out, but for a few.
 /// Contracts see what is out, the slots, how many of them are empty, and how many more find room.
 #[derive(Drop)]
 pub(crate) struct UnackedTable {
@@ -45,7 +47,8 @@ impl Model for UnackedTable {
 impl UnackedTable {
     /// Nothing is out; takes no memory.
     pub(crate) fn new(alloc: Global) -> UnackedTable
-        ensures { result.items ≡ [] }
+        ensures items { result.items ≡ [] }
+        ensures empty { result.empty ≡ 0 }
     {
         UnackedTable {
             slots: VecDeque::new(alloc),
@@ -58,6 +61,7 @@ impl UnackedTable {
         ensures items { self.new.items ≡ self.old.items }
         ensures ok { OnOk result (n ≤ self.new.spare) }
         ensures more { self.old.spare ≤ self.new.spare }
+        ensures empty { self.new.empty ≡ self.old.empty }
     {
         self.slots.reserve(n)
     }
@@ -91,6 +95,7 @@ impl UnackedTable {
         ensures items { self.new.items ≡ with_out self.old.items given }
         ensures len { length self.new.items ≤ length self.old.items + 1 }
         ensures spare { self.old.spare ≤ self.new.spare + 1 }
+        ensures few { FewEmpty self.old → FewEmpty self.new }
     {
         let slot = Slot {
             index: given.index,
@@ -110,9 +115,13 @@ impl UnackedTable {
         ensures items { self.new.items ≡ filter (λ (o : Unacked). not (o.index == index)) self.old.items }
         ensures len { length self.new.items ≤ length self.old.items }
         ensures spare { self.old.spare ≤ self.new.spare }
+        ensures few { FewEmpty self.old → FewEmpty self.new }
     {
         match self.search(index) {
-            Ok(0) => self.pop(),
+            Ok(0) => {
+                self.pop();
+                self.tidy();
+            }
             Ok(at) => {
                 self.put(
                     at,
@@ -132,6 +141,7 @@ impl UnackedTable {
         ensures items { self.new.items ≡ filter (λ (o : Unacked). not (has cursor.now.indexes o.index)) self.old.items }
         ensures len { length self.new.items ≤ length self.old.items }
         ensures spare { self.old.spare ≤ self.new.spare }
+        ensures empty { self.new.empty ≡ 0 }
     {
         self.slots.retain(|slot| slot.is_open(cursor));
         self.empty = 0;
@@ -142,11 +152,13 @@ impl UnackedTable {
         ensures items { self.new.items ≡ filter (λ (o : Unacked). not (nat_le o.index index)) self.old.items }
         ensures len { length self.new.items ≤ length self.old.items }
         ensures spare { self.old.spare ≤ self.new.spare }
+        ensures few { FewEmpty self.new }
     {
         let gone = self.slots.partition_point(|slot| slot.index <= index);
         for _place in 0..gone {
             self.pop();
         }
+        self.tidy();
     }
 
     /// Nothing is out with a client.
@@ -154,6 +166,7 @@ impl UnackedTable {
         ensures items { self.new.items ≡ filter (λ (o : Unacked). not (o.client == client)) self.old.items }
         ensures len { length self.new.items + length (out_with client self.old.items) ≡ length self.old.items }
         ensures spare { self.old.spare ≤ self.new.spare }
+        ensures empty { self.new.empty ≡ 0 }
     {
         self.slots.retain(|slot| slot.is_with_other(client));
         self.empty = 0;
@@ -163,6 +176,7 @@ impl UnackedTable {
     pub(crate) fn clear(&mut self)
         ensures items { self.new.items ≡ [] }
         ensures spare { self.old.spare ≤ self.new.spare }
+        ensures empty { self.new.empty ≡ 0 }
     {
         self.slots.clear();
         self.empty = 0;
@@ -185,6 +199,7 @@ impl UnackedTable {
     fn tidy(&mut self)
         ensures items { self.new.items ≡ self.old.items }
         ensures spare { self.old.spare ≤ self.new.spare }
+        ensures few { FewEmpty self.new }
     {
         if self.empty > FEW && self.empty > self.slots.len() / 2 {
             self.settle();
@@ -195,6 +210,7 @@ impl UnackedTable {
     fn put(&mut self, at: usize, slot: Slot)
         requires { IsHere Slot slot_index self.old.slots slot.index at }
         ensures items { self.new.items ≡ outs_of (slice_set self.old.slots at slot) }
+        ensures empty { self.new.empty ≡ empties (slice_set self.old.slots at slot) }
         ensures spare { self.new.spare ≡ self.old.spare }
     {
         self.empty -= self.slots[at].emptiness();
@@ -218,6 +234,7 @@ impl UnackedTable {
         ensures here { IfOk result (λ at. IsHere Slot slot_index self.now.slots index at) }
         ensures gap { IfErr result (λ at. IsGap Slot slot_index self.now.slots index at) }
         ensures items { self.now.items ≡ outs_of self.now.slots }
+        ensures empty { self.now.empty ≡ empties self.now.slots }
         ensures ascending { IsAscending slot_index self.now.slots }
     {
         let at = self.slots.partition_point(|slot| slot.index < index);

@@ -4,11 +4,12 @@ use Rattle.geo_base.specs.declared.entry.Entry.{Entry}
 use Rattle.geo_base.specs.declared.frame.Frame.{Frame}
 use Rattle.geo_base.specs.declared.frame.Frame.TheVariants as frame
 use Rattle.geo_base.specs.declared.marker.ClusterRef.{ClusterRef}
+use Rattle.geo_base.specs.Producing.{most_producer_name}
 use Rattle.geo_base.specs.Sizes.{entry_size, most_entry_size, cluster_ref_name}
 
 -- a text that is no message: a name, or at most as long as a producer's name that a broker attaches (own)
 abbrev pub IsShort : List ℕ → Type 0
-IsShort t = length t ≤ 1024
+IsShort t = length t ≤ most_producer_name
 
 -- an entry that is small enough to be stored, and the name of the cluster that it came from
 pub record IsSmallCarried (names : List (List ℕ)) (source : Option ClusterRef) (e : Entry) : Type 0 where

@@ -21,7 +21,7 @@ use Rattle.replicator.specs.declared.reading.ReadOut.TheVariants as reads
 use Rattle.replicator.specs.declared.receiver.Taken.{Taken}
 use Rattle.replicator.specs.declared.receiver.Taken.TheVariants as takes
 
--- a read: the entry is sent, or acted on, or passed over
+-- a read: the entry is sent, or acted on, or skipped
 abbrev pub plan_of_read : Site → Broker → ℕ → ReadOut → Plan
 plan_of_read h b y reads.Idle = idle_plan
 plan_of_read h b y (reads.Skip i) = handled y i [] []

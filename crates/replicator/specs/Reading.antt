@@ -8,7 +8,7 @@ use Rattle.geo_base.specs.Replicator.{Replicator, index_to_read, replicator_sent
 use Rattle.replicator.specs.declared.reading.ReadOut.{ReadOut}
 use Rattle.replicator.specs.declared.reading.ReadOut.TheVariants as reads
 
--- of an entry that the other cluster stored first, a marker is acted on, and all else is passed over
+-- of an entry that the other cluster stored first, a marker is acted on, and all else is skipped
 abbrev pub read_out_other : ℕ → Content → ReadOut
 read_out_other i content.Data = reads.Skip i
 read_out_other i (content.Marked m) = reads.Mark i

@@ -3,7 +3,7 @@
 //! an earlier connection apart.
 //!
 //! The program's broker looks before it writes anything, by `next_read`, `next_answer` and `next_packet`, and does the bare steps after
-//! (`set_session`, `begin`, `opened`, `pend`, `read_to`, `unpend`, `restart`; `open`, `close`). For other teams are `reset`,
+//! (`set_session`, `begin`, `opened`, `pend`, `read_to`, `unpend`, `restart`; `open`, `close`). A trace asks `index_to_read`. For other teams are `reset`,
 //! `on_success`, `on_receipt`, `read` and `on_packet`: each is such a look and its step in one call.
 #![tactic(auto)]
 

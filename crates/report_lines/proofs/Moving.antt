@@ -12,6 +12,7 @@ use Rattle.tiered_storage.specs.declared.part.Part.TheVariants as part
 use Rattle.tiered_storage.specs.Calls.{Comes, fault_of, is_away}
 use Rattle.tiered_storage.specs.Tiered.{Tiered, all_here}
 use Rattle.tiered_storage.proofs.Cutting.{none_away, parts_many}
+use Rattle.report_lines.specs.Tiers.{first_away}
 
 -- ---- one ledger
 
@@ -44,12 +45,6 @@ pub unclosed_still : {T : Type 0} (t new : Tiered T) (r : Result (Unit {0}) Offl
 unclosed_still {T} t new r ledger left = ap (λ (v : Tiered T). v.unclosed) left
 
 -- ---- all of them
-
--- the first ledgers, so many, stand in the tier
-abbrev pub first_away : ℕ → List Part → List Part
-first_away zero ps = ps
-first_away (suc n) [] = []
-first_away (suc n) (p ∷ ps) = part.Away ∷ first_away n ps
 
 still_many : (n : ℕ) (ps : List Part) → length (first_away n ps) ≡ length ps
 still_many zero ps = refl
@@ -90,6 +85,10 @@ so_many (suc n) (l ∷ ls) es h =
 -- and so many moved
 pub all_counted : (n m : ℕ) (ls : List ℕ) (es : List Entry) (parts : List Part) → parts ≡ first_away n (all_here ls es) → n ≤ length ls → n ≡ m → count_by is_away parts ≡ m
 all_counted n m ls es parts is few same = ap (count_by is_away) is ∙ (so_many n ls es few ∙ same)
+
+-- the last ones, so many as were to stay, stand here
+pub all_moved : (n m : ℕ) (ls : List ℕ) (es : List Entry) (parts : List Part) → parts ≡ first_away n (all_here ls es) → n ≡ m → parts ≡ first_away m (all_here ls es)
+all_moved n m ls es parts is same = is ∙ ap (λ k. first_away k (all_here ls es)) same
 
 -- ---- reading them
 

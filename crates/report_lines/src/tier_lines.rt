@@ -9,10 +9,10 @@ ghost use Rattle.geo_base.specs.declared.entry.Entry.{Entry};
 ghost use Rattle.geo_base.specs.Report.{entry_line, entry_lines, with_line_feeds};
 ghost use Rattle.geo_base.specs.Topic.{position_at};
 ghost use Rattle.tiered_storage.specs.Readable.{AreTellable};
-ghost use Rattle.report_lines.specs.Tiers.{moved_ledgers, moved_line};
+ghost use Rattle.report_lines.specs.Tiers.{first_away, moved_ledgers, moved_line};
 ghost use Rattle.tiered_storage.specs.Kept.{kept_in};
 ghost use Rattle.tiered_storage.specs.Calls.{offloaded};
-ghost use Rattle.tiered_storage.specs.Tiered.{Holds};
+ghost use Rattle.tiered_storage.specs.Tiered.{Holds, all_here};
 ghost use Rattle.tiered_storage.specs.declared.part.Part.TheVariants as part;
 
 use crate::add_entry_line;
@@ -32,7 +32,7 @@ pub fn moved_line(alloc: Global, topic: &str, cluster: &str, moved: u64) -> Resu
 }
 
 /// The entries of a store at the cluster `own`, of which each closed ledger moved to a tier but the last `keep`. An `Err` is want of
-/// memory: the tier has no other faults.
+/// memory: the tier has no other faults. Those that moved are the first ones, and the others stand here.
 pub fn moved_to_tier<S: EntryStore>(
     alloc: Global,
     clusters: &[ClusterName],
@@ -43,6 +43,7 @@ pub fn moved_to_tier<S: EntryStore>(
     requires { AreTellable clusters.now own (S.entries store.now) }
     ensures holds { IfOk result (Holds clusters.now kept_in (S.entries store.now)) }
     ensures moved { IfOk result (λ t. offloaded t ≡ moved_ledgers (S.per_ledger store.now) keep (S.ledgers store.now)) }
+    ensures parts { IfOk result (λ t. t.parts ≡ first_away (moved_ledgers (S.per_ledger store.now) keep (S.ledgers store.now)) (all_here (S.ledgers store.now) (S.entries store.now))) }
 {
     moved(alloc, clusters, own, store, keep)
 }
@@ -61,6 +62,7 @@ fn moved<S: EntryStore>(
     requires store { S.entries store.now ≡ entries }
     ensures holds { IfOk result (Holds clusters.now kept_in entries) }
     ensures moved { IfOk result (λ t. offloaded t ≡ moved_ledgers (S.per_ledger store.now) keep (S.ledgers store.now)) }
+    ensures parts { IfOk result (λ t. t.parts ≡ first_away (moved_ledgers (S.per_ledger store.now) keep (S.ledgers store.now)) (all_here (S.ledgers store.now) entries)) }
 {
     let mut topic = TieredLedger::new(alloc, own, store, MemTier::new(alloc, &[])?)?;
     let closed = store.next().ledger;
@@ -93,7 +95,8 @@ fn move_ledger<T: Tier + Drop>(
 }
 
 /// Appends the entries of a topic in order, each read from where it stands now, at its position in the store that it was copied
-/// from. An `Err` is want of memory.
+/// from. An `Err` is want of memory: the text still begins with what it had, and some of the lines may follow, since each is added
+/// as soon as its entry is read.
 pub fn add_read_entries<S: EntryStore>(
     alloc: Global,
     lines: &mut Blob,
@@ -112,7 +115,7 @@ pub fn add_read_entries<S: EntryStore>(
     Ok(())
 }
 
-/// Appends the entry at an index, read from where it stands now. An `Err` is want of memory.
+/// Appends the entry at an index, read from where it stands now. An `Err` is want of memory, and the text still begins with what it had.
 fn add_read_entry<S: EntryStore>(
     alloc: Global,
     lines: &mut Blob,

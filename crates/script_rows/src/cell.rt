@@ -263,7 +263,7 @@ fn read_key(word: &[u8]) -> Result<Value<'_>, Rule>
 
 /// All that is left.
 fn read_text(word: &[u8]) -> Result<Value<'_>, Rule>
-    ensures { result ≡ said (if nat_lt 1024 (length word.now) then Some Rule.LongText else None)
+    ensures { result ≡ said (if nat_lt TEXT_BYTES (length word.now) then Some Rule.LongText else None)
         (Some (Value.Text word.now)) }
 {
     if word.len() > TEXT_BYTES {

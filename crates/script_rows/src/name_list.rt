@@ -7,7 +7,7 @@ ghost use Rattle.script_rows.specs.NameWords.{has_name_bytes, listed};
 use crate::cut::Parts;
 use crate::name_word::has_name_bytes;
 use crate::table::NameTable;
-use geo_base::limits::NAME_BYTES;
+use geo_base::limits::{CLUSTERS, NAME_BYTES};
 use geo_base::{Blob, Memory};
 use std::alloc::Global;
 use std::marker::Model;
@@ -121,7 +121,7 @@ impl<'a> NameList<'a> {
 /// The mask of the names of a table that are in a list: a name's number is that of its bit.
 #[tactic(auto, using(crate::proofs::Masks::mask_small))]
 pub fn mask_of(table: &NameTable<'_>, names: &NameList<'_>) -> u8
-    requires { length table.now ≤ 8 }
+    requires { length table.now ≤ CLUSTERS }
     ensures { result ≡ mask_of table.now names.now }
 {
     let mut mask = 0;

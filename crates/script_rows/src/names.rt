@@ -7,6 +7,7 @@ ghost use Rattle.script_rows.specs.Names.{count_of, in_role, member_at, member_o
 use crate::NameTable;
 use crate::column::Role;
 use geo_base::Memory;
+use geo_base::limits::CLUSTERS;
 use std::alloc::Global;
 use std::marker::Model;
 
@@ -29,6 +30,7 @@ pub struct Names<'a> {
 }
 
 impl<'a> Model for Names<'a> {
+    ghost use Rattle.geo_base.specs.Scripted.{most_clusters};
     ghost use Rattle.std.specs.Prelude.{◌≤◌, length};
     ghost use Rattle.script_rows.specs.Names.{Names};
 
@@ -42,7 +44,7 @@ impl<'a> Model for Names<'a> {
       subs = n.subs.items;
     } };
 
-    ghost invariant = { λ n. length n.clusters ≤ 8 };
+    ghost invariant = { λ n. length n.clusters ≤ most_clusters };
 }
 
 impl<'a> Names<'a> {
@@ -67,7 +69,7 @@ impl<'a> Names<'a> {
         members: Vec<Member>,
         subs: Vec<NameTable<'a>>,
     ) -> Names<'a>
-        requires { length clusters ≤ 8 }
+        requires { length clusters ≤ CLUSTERS }
         ensures { result ≡ record {
           clusters = clusters.entry;
           topics = topics.entry;
@@ -88,7 +90,7 @@ impl<'a> Names<'a> {
     /// The clusters.
     pub fn clusters(&self) -> &NameTable<'a>
         ensures names { result.now ≡ self.now.clusters }
-        ensures few { length self.now.clusters ≤ 8 }
+        ensures few { length self.now.clusters ≤ CLUSTERS }
     {
         &self.clusters
     }
@@ -193,7 +195,7 @@ impl<'a> Names<'a> {
     /// One more cluster; unchanged where memory is wanting.
     pub fn push_cluster(&mut self, name: &'a [u8]) -> Result<(), Memory>
         requires new { is_among self.old.clusters name.now ≡ false }
-        requires room { length self.old.clusters < 8 }
+        requires room { length self.old.clusters < CLUSTERS }
         ensures ok { OnOk result (self.new ≡ with_cluster self.old name.now) }
         ensures err { OnErr result (self.new ≡ self.old) }
     {

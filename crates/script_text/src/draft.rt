@@ -15,7 +15,7 @@ use crate::declarations::Declarations;
 use crate::lines::TextLine;
 use crate::setup::SetupParts;
 use crate::steps::read_row;
-use geo_base::limits::LEDGER_ENTRIES;
+use geo_base::limits::{CLUSTERS, LEDGER_ENTRIES};
 use geo_base::{ClusterName, Line, Memory, ProducerName, Sequence, TopicName};
 use script_rows::{
     ActKind, Heading, Kind, LineFault, LineKind, NameWord, Names, Progress, Row, Stage, Value,
@@ -120,7 +120,7 @@ impl<'a> Draft<'a> {
     fn add_cluster(&mut self, alloc: Global, name: &NameWord<'a>) -> Result<(), Memory>
         requires named { is_name name.now ≡ true }
         requires new { is_among self.old.names.clusters name.now ≡ false }
-        requires few { length self.old.names.clusters < 8 }
+        requires few { length self.old.names.clusters < CLUSTERS }
         ensures { OnOk result (self.new ≡ drafted_cluster self.old name.now) }
     {
         self.names.push_cluster(name.as_bytes())?;

@@ -104,7 +104,7 @@ impl<'a> Recent<'a> {
 
 /// The place of a line.
 pub(crate) fn place_of(line: &[u8]) -> usize
-    ensures { result < 4096 }
+    ensures { result < PLACES }
 {
     (number_of(line).wrapping_mul(SPREAD) >> PLACE_SHIFT) as usize
 }

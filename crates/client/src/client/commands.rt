@@ -16,7 +16,7 @@ ghost use Rattle.client.specs.Changing.{as_connected};
 use crate::client::Client;
 use crate::client::outgoing::{ClientOut, Connection, add};
 use crate::site::ClientSite;
-use geo_base::limits::CLUSTERS;
+use geo_base::limits::{CLUSTERS, TEXT_BYTES};
 use geo_base::{
     Blob, ClusterName, Content, Entry, Frame, Ident, Line, Memory, Metadata, Sequence, Targets,
     Text, optional_text_copy,
@@ -140,7 +140,7 @@ impl Client {
         line: PubLine<'_>,
     ) -> Result<Entry, Memory>
         requires key { is_optional_name line.key.now ≡ true }
-        requires text { length line.text.now ≤ 1024 }
+        requires text { length line.text.now ≤ TEXT_BYTES }
         ensures entry { IfOk result (λ e. e ≡ published site.now.setup site.now.declared (as_connected connection self.now) line.entry.seq line.entry.to line.entry.key.now line.entry.text.now) }
         ensures message { IfOk result (λ e. is_message e ≡ true) }
     {

@@ -4,7 +4,8 @@ use Rattle.geo_base.specs.declared.position.Position.{Position}
 use Rattle.tiered_storage.specs.Readable.{AreTellable}
 use Rattle.tiered_storage.specs.Kept.{TierState, kept_in}
 use Rattle.tiered_storage.specs.Tiered.{Holds, Tiered, all_here}
-use Rattle.report_lines.proofs.Moving.{all_counted, one_more, one_of}
+use Rattle.report_lines.specs.Tiers.{moved_ledgers}
+use Rattle.report_lines.proofs.Moving.{all_counted, all_moved, one_more, one_of}
 use Rattle.report_lines.proofs.tier_lines.moved.Goals as goal
 
 pub loop-ledger-init : goal.loop-ledger-init
@@ -37,5 +38,12 @@ pub returns-clause-moved : goal.returns-clause-moved
 returns-clause-moved g c =
     let ls = g.S.EntryStore.ledgers c.args.store.now in let inv = c.loop-ledger.invariant in
     all_counted c.loop-ledger.ledger _ ls g.entries c.loop-ledger.topic.parts inv.parts inv.few
+    (let past = c.loop-ledger-test.false in let low = c.loop-ledger.auto.ledger-end in let end = c.saturating_sub-ledger-end.ensures in
+    let next = ap (λ (p : Position). p.ledger) c.next-closed.ensures in omega (arith, past, low, end, next))
+
+pub returns-clause-parts : goal.returns-clause-parts
+returns-clause-parts g c =
+    let ls = g.S.EntryStore.ledgers c.args.store.now in let inv = c.loop-ledger.invariant in
+    all_moved c.loop-ledger.ledger (moved_ledgers (g.S.EntryStore.per_ledger c.args.store.now) c.args.keep ls) ls g.entries c.loop-ledger.topic.parts inv.parts
     (let past = c.loop-ledger-test.false in let low = c.loop-ledger.auto.ledger-end in let end = c.saturating_sub-ledger-end.ensures in
     let next = ap (λ (p : Position). p.ledger) c.next-closed.ensures in omega (arith, past, low, end, next))

@@ -2,7 +2,7 @@ use Rattle.std.proofs.Common.{◌≡◌, ◌≤◌, length}
 use Rattle.geo_base.specs.Topic.{next_position}
 use Rattle.tiered_storage.specs.Kept.{kept_in}
 use Rattle.tiered_storage.specs.Tiered.{Holds, all_here}
-use Rattle.report_lines.proofs.Moving.{first_away}
+use Rattle.report_lines.specs.Tiers.{first_away}
 use Rattle.report_lines.proofs.tier_lines.moved.Given as goal
 
 -- the ledgers before this one moved

@@ -27,7 +27,8 @@ returns-clause-items c =
     let found = IsPartitionPoint-from_clause (λ (x : Slot). nat_le (slot_index x) c.args.index) xs gone c.partition_point-gone.ensures.partitioned (IsPartitionedBy-leb slot_index xs c.args.index (rises slot_index xs c.self.invariant.ascending)) (λ a r f k. search rules) in
     let all : c.loop-place._place ≡ gone = omega arith in
     let view = ap (λ (t : UnackedIndexes). drop gone t.slots) c.self.view_is in
-    c.loop-place.invariant.items
+    c.tidy.ensures.items
+    ∙ c.loop-place.invariant.items
     ∙ ap (λ (ss : List Slot). outs_of ss) (c.loop-place.invariant.rest ∙ ap (λ n. drop n c.args.self.now.slots) all ∙ sym view ∙ sym (dropped_to slot_index c.args.index xs gone within found))
     ∙ outs_behind c.args.index xs
     ∙ ap (λ (t : UnackedIndexes). filter (λ (o : Unacked). not (nat_le o.index c.args.index)) t.items) c.self.view_is

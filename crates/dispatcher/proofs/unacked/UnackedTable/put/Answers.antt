@@ -1,9 +1,9 @@
-use Rattle.std.proofs.Common.{arith, ap, set}
+use Rattle.std.proofs.Common.{◌≡◌, ◌+◌, ◌-◌, arith, ap, set}
 use Rattle.std.proofs.lemmas.List.{length-set}
 use Rattle.geo_base.specs.Ascending.{IsHere}
 use Rattle.geo_base.proofs.Ascending.{ascending_set}
 use Rattle.dispatcher.specs.declared.slot.Slot.{Slot}
-use Rattle.dispatcher.specs.Slots.{emptiness, slot_index}
+use Rattle.dispatcher.specs.Slots.{emptiness, empties, slot_index}
 use Rattle.dispatcher.specs.Tables.{UnackedIndexes}
 use Rattle.dispatcher.proofs.Slots.{empties_set, empty_within, length_outs}
 use Rattle.dispatcher.proofs.unacked.UnackedTable.put.Goals as goal
@@ -47,3 +47,19 @@ invariant_of-self c =
         c.self.invariant.counted,
       );
     }
+
+pub returns-clause-empty : goal.returns-clause-empty
+returns-clause-empty c =
+    let xs = c.self.inside.slots.items in
+    let view = ap (λ (t : UnackedIndexes). t.slots) c.self.view_is in
+    let here : IsHere Slot slot_index xs c.args.slot.index c.args.at = rw view c.requires in
+    let counted : c.self.inside.empty - c.emptiness.result + c.emptiness-2.result ≡ empties (set xs c.args.at c.args.slot) = omega (
+      arith,
+      empty_within xs c.args.at c.index.result.now here.within,
+      empties_set xs c.args.at c.args.slot c.index.result.now here.within,
+      c.emptiness.ensures,
+      c.emptiness-2.ensures,
+      ap (λ (s : Slot). emptiness s.client) c.index.ensures,
+      c.self.invariant.counted,
+    ) in
+    rw (← view) counted

@@ -15,14 +15,14 @@ returns-in-Ok-eq0-clause-items c =
     let k = c.args.index in
     let zero : c.in-Ok-eq0.field-0 ≡ 0 = first_of (omega (arith, c.in-Ok-eq0.field-0-test), cc) in
     let here : IsHere Slot slot_index ss k 0 = subst (λ n. IsHere Slot slot_index ss k n) zero c.in-Ok-eq0.ensures.here in
-    c.pop.ensures.items ∙ popped ss k (record { index = k; client = None }) c.search.ensures.ascending here
+    c.tidy.ensures.items ∙ c.pop.ensures.items ∙ popped ss k (record { index = k; client = None }) c.search.ensures.ascending here
     ∙ ap (λ os. filter (λ (o : Unacked). not (o.index == k)) os) (sym c.search.ensures.items)
 
 pub returns-in-Ok-clause-items : goal.returns-in-Ok-clause-items
 returns-in-Ok-clause-items c =
     let ss = c.args.self.now.slots in
     let k = c.args.index in
-    c.tidy.ensures.items ∙ c.put.ensures.items ∙ emptied_at ss k c.in-Ok.at (record { index = k; client = None }) refl c.search.ensures.ascending c.in-Ok.ensures.here
+    c.tidy-in-Ok.ensures.items ∙ c.put.ensures.items ∙ emptied_at ss k c.in-Ok.at (record { index = k; client = None }) refl c.search.ensures.ascending c.in-Ok.ensures.here
     ∙ ap (λ os. filter (λ (o : Unacked). not (o.index == k)) os) (sym c.search.ensures.items)
 
 pub returns-in-Ok-clause-len : goal.returns-in-Ok-clause-len
