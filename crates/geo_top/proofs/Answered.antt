@@ -33,7 +33,9 @@ use Rattle.geo_top.proofs.GoingOut.{only_answer, same_due, went, went_is, writes
 use Rattle.geo_top.proofs.GoingOn.{goes_alike, goes_within}
 use Rattle.geo_top.proofs.OneRun.{kept_is, losses_same, reports_same}
 use Rattle.geo_top.proofs.Quiet.{generated_quiet}
-use Rattle.geo_top.proofs.SaidSteps.{script_said}
+use Rattle.script_generator.proofs.InRange.{is_scenario}
+use Rattle.script_generator.specs.Generated.{generated_run}
+use Rattle.geo_top.proofs.SaidSteps.{all_written, script_said}
 use Rattle.geo_top.proofs.SavedWith.{ok_maps}
 
 not_long : (n : ℕ) → n ≤ 67108864 → nat_lt 67108864 n ≡ false
@@ -72,7 +74,8 @@ answered c input a f founded stood = record {
   stepped = ok_told c input a founded (λ n. (a.bytes ≡ steps_of input n) × HoldsWithin n × AreAllSaid input n)
       (λ n read k is none. (is, (none, holds_of n k.setup none), script_said input n read));
   stepped_on = ok_told_on c input a founded;
-  stepped_big = λ number ok is. let big = ok_big_steps c input a number founded ok is in (big.0, (big.1, generated_holds number big.1));
+  stepped_big = λ number ok is. let big = ok_big_steps c input a number founded ok is in
+      (big.0, (big.1, generated_holds number big.1), all_written (generated_run number) (is_scenario (generated_run number) number refl));
   lost = record {
     ended = told_loss c input a founded;
     on_state = told_loss_on c input a founded;

@@ -15,12 +15,16 @@ use Rattle.script_text.specs.Lines.{TextLine, is_skipped, lines_of}
 use Rattle.script_text.specs.Naming.{names_of}
 use Rattle.script_text.specs.Rules.{judged, lowest, said_by, script_from, script_of}
 use Rattle.script_text.specs.Said.{Said, said_from, said_in}
-use Rattle.script_text.specs.Schedule.{at_events, schedule_from, schedule_of, scheduled}
+use Rattle.script_text.specs.Scenario.{IsScenario}
+use Rattle.script_text.specs.Schedule.{at_events, schedule_from, schedule_of, schedule_text, scheduled}
 use Rattle.script_text.specs.Script.{Script, SoFar, Steps, no_line, no_steps}
 use Rattle.step_lines.specs.Telling.{Rises}
 use Rattle.step_lines.proofs.Rising.{said_rise}
+use Rattle.script_text.proofs.Accepted.{declared_scripted}
 use Rattle.script_text.proofs.Appended.{at_line_ok, complete, ended_ok}
 use Rattle.script_text.proofs.Parts.{unbroken}
+use Rattle.script_text.proofs.ScheduleBack.{schedule_back}
+use Rattle.geo_top.specs.Stepped.{AreAllWritten}
 
 -- ---- a line adds one step at most
 one_more : (at : ℕ) (s : Steps) (o : Option Step) → length (with_step at s o).list ≤ length s.list + 1
@@ -180,6 +184,10 @@ said_many text n said is lines = subst (λ (at : List Said). length n.steps ≤ 
 -- ---- the lines of a schedule by itself
 pub said_on : (s : Setup) (lines : List ℕ) (es : List Step) (said : List Said) → schedule_of s lines ≡ Ok es → said ≡ said_from 1 (lines_of lines) → length es ≤ length said
 said_on s lines es said is same = subst (λ (at : List Said). length es ≤ length at) (sym same) (schedule_said s lines es is)
+
+-- as it is written
+pub all_written : (n : Script) → IsScenario n → AreAllWritten n
+all_written n k = schedule_said n.setup (schedule_text (names_of n.setup) n.steps) n.steps (schedule_back n.setup n.steps (declared_scripted n.setup k.setup) k.steps)
 
 pub rises_on : (lines : List ℕ) (said : List Said) → said ≡ said_from 1 (lines_of lines) → Rises 0 said
 rises_on lines said same = subst (λ (at : List Said). Rises 0 at) (sym same) (said_rise 0 0 (lines_of lines) (omega arith))

@@ -28,7 +28,7 @@ use Rattle.geo_top.specs.OneRun.{GoesOnAlike, IsKept, IsSavedWith, counted_on, l
 use Rattle.geo_top.specs.Outputs.{IsAnswerFor, answer_to, answer_to_audit, answer_to_big, big_steps, output_of, report_of, resumed_limit, resumed_report, summary_of}
 use Rattle.geo_top.specs.States.{file_of, gone_on, stopped}
 use Rattle.geo_top.specs.Statuses.{IsDue, IsMade, refusal_line}
-use Rattle.geo_top.specs.Stepped.{AreAllSaid, AreAllSaidOn, steps_of, steps_on}
+use Rattle.geo_top.specs.Stepped.{AreAllSaid, AreAllSaidOn, AreAllWritten, steps_of, steps_on}
 use Rattle.geo_top.specs.ToldLoss.{IsToldLoss}
 use Rattle.geo_top.specs.Traced.{traced_of}
 use Rattle.geo_top.specs.Wholly.{IsJudgedWhole}
@@ -122,8 +122,8 @@ pub record IsAnswered (c : Option Command) (input output : List ℕ) (f : FaultC
   -- `steps from` the same of the run that goes on from the state that the input begins with, by the lines of the schedule after its bytes;
   pub stepped_on : s ≡ status.Ok → c ≡ Some steps_on_command → (g : SavedState) × (used : ℕ) × IsLoaded input (Ok (g, used))
       × IsOkAnd (schedule_of g.scenario.setup (drop used input)) (λ es. (output ≡ steps_on g (drop used input) es) × (resumed_limit g es ≡ None) × AreAllSaidOn (drop used input) es)
-  -- and `steps big` of the run that a number generates, by its schedule as it is written.
-  pub stepped_big : (number : ℕ) → s ≡ status.Ok → c ≡ Some (command.BigSteps number) → (output ≡ big_steps number) × HoldsWithin (generated_run number)
+  -- and `steps big` of the run that a number generates, by its schedule as it is written, in which there is such a line too.
+  pub stepped_big : (number : ℕ) → s ≡ status.Ok → c ≡ Some (command.BigSteps number) → (output ≡ big_steps number) × HoldsWithin (generated_run number) × AreAllWritten (generated_run number)
   -- `lost` writes what is lost if a cluster goes.
   pub lost : IsToldLoss c input output s
   -- `big` writes the summary of the machine's run over the generated schedule, of which all holds too; at its end all is quiet.

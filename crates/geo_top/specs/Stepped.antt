@@ -40,3 +40,7 @@ AreAllSaidOn lines es = length es ≤ length (said_from 1 (lines_of lines))
 -- of the run of a script that no text said, by its schedule as it is written
 abbrev pub steps_by_schedule : Script → List ℕ
 steps_by_schedule n = steps_text n (opening_world n.setup) (said_from 1 (lines_of (schedule_text (names_of n.setup) n.steps))) n.steps
+
+-- and each of them has a line there
+abbrev pub AreAllWritten : Script → Type 0
+AreAllWritten n = AreAllSaidOn (schedule_text (names_of n.setup) n.steps) n.steps

@@ -1,8 +1,12 @@
+pub mod OpenMessages
 pub mod Runs
 pub mod Lines
 pub mod Finding
 pub mod Resting
 pub mod Changes
+pub mod Counting
+pub mod Following
 pub mod Rising
 pub mod Told
 pub mod AllBrokers
+pub mod OtherNames

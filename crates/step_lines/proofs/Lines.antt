@@ -1,6 +1,7 @@
 -- Lines that stand to the right, one after another.
-use Rattle.std.proofs.Common.{◌≡◌, ℕ, ◌+◌, ◌<◌, List, [], ◌∷◌, ◌++◌, length, map, drop, get_or, append_assoc, refl, sym, ◌∙◌, ap}
-use Rattle.std.proofs.lemmas.List.{drop_more}
+use Rattle.std.proofs.Common.{◌≡◌, ℕ, ◌+◌, ◌<◌, ◌≤◌, List, [], ◌∷◌, ◌++◌, length, map, drop, get_or, append_assoc, refl, sym, ◌∙◌, ap}
+use Rattle.std.proofs.lemmas.List.{drop_all, drop_more}
+use Rattle.std.proofs.lemmas.Option.{get_or_from_slice_get}
 use Rattle.geo_base.specs.Broker.{Broker}
 use Rattle.step_laws.specs.Steps.{ReportChange, change_line, other_replicators}
 use Rattle.step_lines.specs.Noted.{replicator_told}
@@ -48,3 +49,14 @@ pub replicators_next : (own k : ℕ) (names : List (List ℕ)) (n : List ℕ) (b
     → other_replicators own k (drop k names) b a ≡ replicator_told own k n b a ++ other_replicators own (k + 1) (drop (k + 1) names) b a
 replicators_next own k names n b a lt is =
     ap (λ (ns : List (List ℕ)). other_replicators own k ns b a) (drop_more names k n lt ∙ ap (λ (m : List ℕ). m ∷ drop (k + 1) names) (sym is))
+
+-- a replicator of which nothing is told
+pub none_told : (own k : ℕ) (names : List (List ℕ)) (b a : Broker) (whole : List ReportChange) → k < length names → ((n : List ℕ) → replicator_told own k n b a ≡ [])
+    → other_replicators own k (drop k names) b a ≡ whole → other_replicators own (k + 1) (drop (k + 1) names) b a ≡ whole
+none_told own k names b a whole lt none before =
+    let n = item names k lt in
+    ap (λ (cs : List ReportChange). cs ++ other_replicators own (k + 1) (drop (k + 1) names) b a) (sym (none n.0))
+    ∙ (sym (replicators_next own k names n.0 b a lt (sym (get_or_from_slice_get names k n.0 n.0 n.1))) ∙ before)
+
+pub none_left : (own k : ℕ) (names : List (List ℕ)) (b a : Broker) (whole : List ReportChange) → length names ≤ k → other_replicators own k (drop k names) b a ≡ whole → whole ≡ []
+none_left own k names b a whole past before = sym before ∙ ap (λ (ns : List (List ℕ)). other_replicators own k ns b a) (drop_all k names past)

@@ -37,7 +37,7 @@ use Rattle.script_text.specs.Scenario.{IsEvent}
 use Rattle.step_laws.specs.Steps.{NewEntry, ReportChange, SubGone, SubNow, broker_changes, change_line, gone_subs, new_entries, other_replicators, other_subs, same_bool, same_sub, sub_unless_same}
 use Rattle.step_lines.specs.declared.heads.Indent.{Indent}
 use Rattle.step_lines.specs.declared.noted.NotedBroker.{NotedBroker}
-use Rattle.step_lines.specs.Changes.{stood_lines}
+use Rattle.step_lines.specs.Changes.{placed, stood_lines}
 use Rattle.step_lines.specs.Noted.{AreReplicators, IsNoted}
 use Rattle.step_lines.specs.Resting.{IsSeen, MayRest, Rests, are_apart, are_of_replicators, is_of_replicator}
 use Rattle.world.proofs.Places.{in_range_is, node_below, stands_at}
@@ -92,7 +92,7 @@ change_rests b (change.Cleared n) = at_rest b n cleared (λ v. refl)
 change_rests b change.Forget = mapped_rest cleared (λ v. refl) b.subs
 change_rests b c = refl
 
-changes_rest : (b : Broker) (cs : List Change) → map cleared (all_changed b cs).subs ≡ map cleared b.subs
+pub changes_rest : (b : Broker) (cs : List Change) → map cleared (all_changed b cs).subs ≡ map cleared b.subs
 changes_rest b [] = refl
 changes_rest b (c ∷ cs) = changes_rest (changed b c) cs ∙ change_rests b c
 
@@ -230,6 +230,12 @@ pub rest_lines : (names : List (List ℕ)) (own : ℕ) (b a : Broker) (i : Inden
     → old ++ stood_lines i (map change_line (other_replicators own 0 names b a)) ≡ old ++ stood_lines i (map change_line (broker_changes names own b a))
 rest_lines names own b a i old rests = ap (λ (cs : List ReportChange). old ++ stood_lines i (map change_line cs)) (rest_changes names own b a rests)
 
+-- and where no replicator is told either, nothing stands under the place
+pub rest_nothing : (names : List (List ℕ)) (own : ℕ) (b a : Broker) (i : Indent) (place : List ℕ) (old : List ℕ) → Rests b a → other_replicators own 0 names b a ≡ []
+    → old ≡ old ++ stood_lines i (placed place (broker_changes names own b a))
+rest_nothing names own b a i place old rests none =
+    sym (append-nil old) ∙ ap (λ (cs : List ReportChange). old ++ stood_lines i (placed place cs)) (sym none ∙ rest_changes names own b a rests)
+
 -- ---- an event's broker
 
 does_at : (s : Setup) (w : World) (p : Planned) → p.plan.idle ≡ false → node s p.topic p.cluster < length w.brokers
@@ -237,10 +243,11 @@ does_at : (s : Setup) (w : World) (p : Planned) → p.plan.idle ≡ false → no
 unfolding broker_does
 does_at s w p busy lt = rw busy (get_or-set_same w.brokers (node s p.topic p.cluster) (done s.per_ledger (topic_at s w p.topic p.cluster) p.plan) no_broker lt)
 
-pub rests_after : (s : Setup) (w : World) (old new : WorldView) (e : Event) (p : PlanView) → IsBrokers e → IsEvent s e → IsAt s old → IsAt s new → Stands s (kept_of old) w
-    → Stands s (kept_of new) (happens s w e) → IsForeseen s w e (node_at old.brokers (node_of s e)) p → p.idle ≡ false → are_of_replicators p.writes ≡ true
-    → are_apart (node_at old.brokers (node_of s e)).broker.subs ≡ true → Rests (node_at old.brokers (node_of s e)).broker (node_at new.brokers (node_of s e)).broker
-rests_after s w old new e p brokers here at at' stands stands' f busy alone apart =
+-- the event's broker after it
+pub done_after : (s : Setup) (w : World) (old new : WorldView) (e : Event) (p : PlanView) → IsBrokers e → IsEvent s e → IsAt s old → IsAt s new → Stands s (kept_of old) w
+    → Stands s (kept_of new) (happens s w e) → IsForeseen s w e (node_at old.brokers (node_of s e)) p → p.idle ≡ false
+    → (node_at new.brokers (node_of s e)).broker ≡ done s.per_ledger (node_at old.brokers (node_of s e)).broker (plan_in s w e)
+done_after s w old new e p brokers here at at' stands stands' f busy =
     let n = node_of s e in let v : BrokerView = node_at old.brokers n in let a : Broker = (node_at new.brokers n).broker in let y = topic_of s e in let x = cluster_of e in
     let low = node_below s old e at brokers here in
     let before : v.broker ≡ topic_at s w y x = stands_at s old w n stands low in
@@ -250,9 +257,16 @@ rests_after s w old new e p brokers here at at' stands stands' f busy alone apar
     let idle : (plan_in s w e).idle ≡ false = sym (idle_is v.site v.broker (plan_in s w e) p f.prepared) ∙ busy in
     let did : topic_at s (happens s w e) y x ≡ done s.per_ledger (topic_at s w y x) (plan_in s w e) =
     ap (λ (u : World). topic_at s u y x) (done_is s w e brokers (in_range_is s e here)) ∙ does_at s w (event_plan s w e) idle there in
-    let rests : Rests v.broker (done s.per_ledger v.broker (plan_in s w e)) =
-    done_rests s.per_ledger v.broker (plan_in s w e) (name_in v.broker.subs p) p.writes (ap (λ (q : Plan). q.writes) f.prepared.steps) alone apart in
-    subst (λ (c : Broker). Rests v.broker c) (ap (λ (c : Broker). done s.per_ledger c (plan_in s w e)) before ∙ (sym did ∙ sym behind)) rests
+    behind ∙ (did ∙ ap (λ (c : Broker). done s.per_ledger c (plan_in s w e)) (sym before))
+
+pub rests_after : (s : Setup) (w : World) (old new : WorldView) (e : Event) (p : PlanView) → IsBrokers e → IsEvent s e → IsAt s old → IsAt s new → Stands s (kept_of old) w
+    → Stands s (kept_of new) (happens s w e) → IsForeseen s w e (node_at old.brokers (node_of s e)) p → p.idle ≡ false → are_of_replicators p.writes ≡ true
+    → are_apart (node_at old.brokers (node_of s e)).broker.subs ≡ true → Rests (node_at old.brokers (node_of s e)).broker (node_at new.brokers (node_of s e)).broker
+rests_after s w old new e p brokers here at at' stands stands' f busy alone apart =
+    let b : Broker = (node_at old.brokers (node_of s e)).broker in
+    let rests : Rests b (done s.per_ledger b (plan_in s w e)) =
+    done_rests s.per_ledger b (plan_in s w e) (name_in b.subs p) p.writes (ap (λ (q : Plan). q.writes) f.prepared.steps) alone apart in
+    subst (λ (c : Broker). Rests b c) (sym (done_after s w old new e p brokers here at at' stands stands' f busy)) rests
 
 pub may_rest : (r : Bool) (b a : Broker) → (r ≡ true → Rests b a) → MayRest r b a
 may_rest true b a rests = rests refl
@@ -274,3 +288,6 @@ as_noted false n b k is seen = seen
 pub as_rests : (r : Bool) (b a : Broker) → r ≡ true → MayRest r b a → Rests b a
 as_rests true b a is rests = rests
 as_rests false b a is rests = absurd (false≢true is)
+
+pub same_seen : (r q : Bool) (n : ℕ) (b : Broker) (k l : NotedBroker) → q ≡ r → l ≡ k → IsSeen r n b k → IsSeen q n b l
+same_seen r q n b k l rests noted seen = subst (λ (m : NotedBroker). IsSeen q n b m) (sym noted) (subst (λ (t : Bool). IsSeen t n b k) (sym rests) seen)

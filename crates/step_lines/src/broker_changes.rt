@@ -2,8 +2,9 @@
 ghost use Rattle.std.specs.Prelude.{◌≡◌, ◌<◌, ◌++◌, [], drop, length, map, slice_index_or, OnErr, OnOk};
 ghost use Rattle.std.specs.Str.{bytes_eq};
 ghost use Rattle.broker_subs.specs.Table.{sub_at};
-ghost use Rattle.geo_base.specs.Broker.{Broker as Machine};
+ghost use Rattle.geo_base.specs.Broker.{Broker as Machine, backlog};
 ghost use Rattle.step_laws.specs.Steps.{broker_changes, change_line};
+ghost use Rattle.step_lines.specs.Backlogs.{backlogs_of};
 ghost use Rattle.step_lines.specs.Changes.{place_line, placed, stood_lines};
 ghost use Rattle.step_lines.specs.Resting.{Rests};
 ghost use Rattle.step_lines.specs.Noted.{AreReplicators, IsNoted, gone_named, gone_told, same_before, same_shown, shown_named, sub_told, subs_told};
@@ -11,21 +12,24 @@ ghost use Rattle.step_lines.specs.Noted.{AreReplicators, IsNoted, gone_named, go
 use crate::entries::add_new_entries;
 use crate::heads::{Indent, add_place};
 use crate::noted::{NotedBroker, NotedSub, shown_of};
-use crate::replicators::{NotedReplicator, add_other_replicators};
+use crate::replicators::{NotedReplicator, add_other_replicators, is_any_other};
 use crate::sub_names::has_sub;
 use broker::Broker;
 use geo_base::{Blob, Memory};
 use report_lines::{SubShown, add_sub_line};
 
-/// Appends what is other at a broker than it was noted, under its topic's line, which stands only where something is.
+/// Appends what is other at a broker, whose backlogs these are, than it was noted, under its topic's line, which stands only where
+/// something is.
 pub(crate) fn add_broker_changes(
     lines: &mut Blob,
     indent: Indent,
     topic: &str,
     broker: &Broker,
     noted: &NotedBroker,
+    backlogs: &[u64],
 ) -> Result<(), Memory>
-    requires { length noted.now.replicators.items ≡ length broker.now.site.clusters }
+    requires replicators { length noted.now.replicators.items ≡ length broker.now.site.clusters }
+    requires backlogs { backlogs.now ≡ backlogs_of broker.now.broker }
     ensures { (b : Machine) → IsNoted (length broker.now.site.clusters) b noted.now
         → OnOk result (lines.new ≡ lines.old ++ stood_lines indent (placed (place_line topic.now (slice_index_or broker.now.site.clusters broker.now.site.own []))
         (broker_changes broker.now.site.clusters broker.now.site.own b broker.now.broker))) }
@@ -33,7 +37,7 @@ pub(crate) fn add_broker_changes(
     let start = lines.len();
     add_place(lines, indent, topic, broker)?;
     let from = lines.len();
-    add_changes(lines, indent, broker, noted)?;
+    add_changes(lines, indent, broker, noted, backlogs)?;
     if lines.len() == from {
         lines.truncate(start);
     }
@@ -53,6 +57,9 @@ pub(crate) fn add_replicator_changes(
         → OnOk result (lines.new ≡ lines.old ++ stood_lines indent (placed (place_line topic.now (slice_index_or broker.now.site.clusters broker.now.site.own []))
         (broker_changes broker.now.site.clusters broker.now.site.own b broker.now.broker))) }
 {
+    if !is_any_other(broker, noted) {
+        return Ok(());
+    }
     let start = lines.len();
     add_place(lines, indent, topic, broker)?;
     let from = lines.len();
@@ -83,15 +90,17 @@ fn add_changes(
     indent: Indent,
     broker: &Broker,
     noted: &NotedBroker,
+    backlogs: &[u64],
 ) -> Result<(), Memory>
-    requires { length noted.now.replicators.items ≡ length broker.now.site.clusters }
+    requires replicators { length noted.now.replicators.items ≡ length broker.now.site.clusters }
+    requires backlogs { backlogs.now ≡ backlogs_of broker.now.broker }
     ensures { (b : Machine) → IsNoted (length broker.now.site.clusters) b noted.now
         → OnOk result (lines.new ≡ lines.old ++ stood_lines indent (map change_line (broker_changes broker.now.site.clusters broker.now.site.own b broker.now.broker))) }
 {
     add_new_entries(lines, indent, broker, noted.entries)?;
     add_other_replicators(lines, indent, broker, noted.replicators.as_slice())?;
     add_gone_subs(lines, indent, broker, noted.subs.as_slice())?;
-    add_other_subs(lines, indent, broker, noted.subs.as_slice())
+    add_other_subs(lines, indent, broker, noted.subs.as_slice(), backlogs)
 }
 
 /// The subscriptions that are no more.
@@ -123,35 +132,40 @@ fn add_if_gone(lines: &mut Blob, indent: Indent, broker: &Broker, name: &[u8]) -
 }
 
 /// The subscriptions that are new or other than before.
+#[tactic(auto, using(crate::proofs::Counting::backlog_there, crate::proofs::Counting::place_within))]
 fn add_other_subs(
     lines: &mut Blob,
     indent: Indent,
     broker: &Broker,
     noted: &[NotedSub],
+    backlogs: &[u64],
 ) -> Result<(), Memory>
+    requires { backlogs.now ≡ backlogs_of broker.now.broker }
     ensures { OnOk result (lines.new ≡ lines.old ++ stood_lines indent (map change_line (subs_told broker.now.broker noted.now broker.now.broker.subs))) }
 {
     for place in 0..broker.subs() {
-        add_other_sub(lines, indent, broker, place, noted)?;
+        add_other_sub(lines, indent, broker, place, backlogs[place], noted)?;
     }
     Ok(())
 }
 
-/// The subscription at a place, if it is new or other than before.
+/// The subscription at a place, whose backlog this is, if it is new or other than before.
 fn add_other_sub(
     lines: &mut Blob,
     indent: Indent,
     broker: &Broker,
     place: usize,
+    count: u64,
     noted: &[NotedSub],
 ) -> Result<(), Memory>
-    requires { place < length broker.now.broker.subs }
+    requires place { place < length broker.now.broker.subs }
+    requires count { count ≡ backlog broker.now.broker (sub_at broker.now.broker.subs place) }
     ensures { OnOk result (lines.new ≡ lines.old ++ stood_lines indent (map change_line (sub_told broker.now.broker (shown_named noted.now (sub_at broker.now.broker.subs place).name) (sub_at broker.now.broker.subs place)))) }
 {
     match broker.sub(place) {
         Some(sub) => {
             let name = sub.name().as_str();
-            let now = shown_of(broker, place);
+            let now = shown_of(broker, place, count);
             if is_as_noted(shown_named(noted, name.as_bytes()), &now) {
                 return Ok(());
             }

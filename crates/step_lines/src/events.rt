@@ -5,9 +5,10 @@ ghost use Rattle.geo_base.specs.Client.{Client as MachineClient};
 ghost use Rattle.geo_base.specs.Happening.{halts_planned, happens};
 ghost use Rattle.geo_base.specs.Planned.{planned};
 ghost use Rattle.geo_base.specs.Setup.{declared_at};
-ghost use Rattle.geo_base.specs.World.{World as MachineWorld};
+ghost use Rattle.geo_base.specs.World.{World as MachineWorld, node};
 ghost use Rattle.script_text.specs.Scenario.{IsEvent};
 ghost use Rattle.step_laws.specs.Steps.{did_or_idle};
+ghost use Rattle.step_lines.specs.Backlogs.{AreBacklogs, MayFollow};
 ghost use Rattle.step_lines.specs.Noted.{noted_client};
 ghost use Rattle.step_lines.specs.Resting.{IsSeen, MayRest, are_apart};
 ghost use Rattle.step_lines.specs.Telling.{IsActed, IsClients, IsTelling, client_step, tells_at, tells_step};
@@ -44,6 +45,7 @@ impl<'a> Steps<'a> {
     ) -> Result<(), RunFault>
         requires at { IsAt scenario.now.setup world.old }
         requires knows { IsTelling scenario.now.setup self.old.telling.names self.old.telling.number self.old.telling.said }
+        requires backlogs { AreBacklogs self.old.backlogs (kept_of world.old).brokers }
         requires client { IsClients client event.now }
         requires scripted { IsEvent scenario.now.setup event.now }
         ensures told { (w : MachineWorld) → Reached scenario.now.setup w → Stands scenario.now.setup (kept_of world.old) w
@@ -52,6 +54,7 @@ impl<'a> Steps<'a> {
             → Leads scenario.now.setup world.old world.new (happens scenario.now.setup w event.now) result }
         ensures at { IsAt scenario.now.setup world.new }
         ensures knows { OnOk result (IsTelling scenario.now.setup self.new.telling.names self.new.telling.number self.new.telling.said) }
+        ensures backlogs { OnOk result (AreBacklogs self.new.backlogs (kept_of world.new).brokers) }
         ensures past { (n : ℕ) → result ≡ Err (fault.TooLarge n) → SameWorld world.old world.new }
     {
         let before = world.events();
@@ -76,6 +79,7 @@ impl<'a> Steps<'a> {
         ensures told { (k : MachineClient) → noted.now ≡ noted_client k
             → OnOk result (telling_of self.new.telling ≡ tells_step scenario.now.setup (telling_of self.old.telling) (client_step scenario.now.setup client (world.now.events == before) k (client_in world.now.clients client))) }
         ensures knows { IsTelling scenario.now.setup self.new.telling.names self.new.telling.number self.new.telling.said }
+        ensures backlogs { self.new.backlogs ≡ self.old.backlogs }
     {
         if world.events() == before {
             return self.telling.add_step(true);
@@ -96,6 +100,7 @@ impl<'a> Steps<'a> {
     ) -> Result<(), RunFault>
         requires at { IsAt scenario.now.setup world.old }
         requires knows { IsTelling scenario.now.setup self.old.telling.names self.old.telling.number self.old.telling.said }
+        requires backlogs { AreBacklogs self.old.backlogs (kept_of world.old).brokers }
         requires broker { IsBrokers event.now }
         requires scripted { IsEvent scenario.now.setup event.now }
         ensures told { (w : MachineWorld) → Reached scenario.now.setup w → Stands scenario.now.setup (kept_of world.old) w
@@ -104,6 +109,7 @@ impl<'a> Steps<'a> {
             → Leads scenario.now.setup world.old world.new (happens scenario.now.setup w event.now) result }
         ensures at { IsAt scenario.now.setup world.new }
         ensures knows { OnOk result (IsTelling scenario.now.setup self.new.telling.names self.new.telling.number self.new.telling.said) }
+        ensures backlogs { OnOk result (AreBacklogs self.new.backlogs (kept_of world.new).brokers) }
         ensures past { (n : ℕ) → result ≡ Err (fault.TooLarge n) → SameWorld world.old world.new }
     {
         if self.acts(alloc, world, scenario, event, Indent::Step)? {
@@ -124,6 +130,7 @@ impl<'a> Steps<'a> {
     ) -> Result<bool, RunFault>
         requires at { IsAt scenario.now.setup world.old }
         requires knows { IsTelling scenario.now.setup self.old.telling.names self.old.telling.number self.old.telling.said }
+        requires backlogs { AreBacklogs self.old.backlogs (kept_of world.old).brokers }
         requires broker { IsBrokers event.now }
         requires scripted { IsEvent scenario.now.setup event.now }
         ensures told { (w : MachineWorld) → Reached scenario.now.setup w → Stands scenario.now.setup (kept_of world.old) w
@@ -133,6 +140,7 @@ impl<'a> Steps<'a> {
         ensures at { IsAt scenario.now.setup world.new }
         ensures later { IsLater world.old world.new }
         ensures knows { IsTelling scenario.now.setup self.new.telling.names self.new.telling.number self.new.telling.said }
+        ensures backlogs { OnOk result (AreBacklogs self.new.backlogs (kept_of world.new).brokers) }
         ensures idle { result ≡ Ok false → SameWorld world.old world.new }
         ensures past { (n : ℕ) → result ≡ Err (fault.TooLarge n) → SameWorld world.old world.new }
     {
@@ -144,6 +152,7 @@ impl<'a> Steps<'a> {
         }
         let may_rest = writes_replicators_alone(&self.plan);
         self.note(alloc, world, scenario, event, broker_ref, may_rest)?;
+        self.follow(alloc, world, scenario, event, broker_ref)?;
         world.finish(alloc, scenario, event, broker_ref, &mut self.plan)?;
         self.tell_event(alloc, world, scenario, event, broker_ref, indent)?;
         Ok(true)
@@ -160,6 +169,7 @@ impl<'a> Steps<'a> {
     ) -> Result<(), RunFault>
         requires at { IsAt scenario.now.setup world.old }
         requires knows { IsTelling scenario.now.setup self.old.telling.names self.old.telling.number self.old.telling.said }
+        requires backlogs { AreBacklogs self.old.backlogs (kept_of world.old).brokers }
         requires broker { IsBrokers event.now }
         requires scripted { IsEvent scenario.now.setup event.now }
         ensures told { (w : MachineWorld) → Reached scenario.now.setup w → Stands scenario.now.setup (kept_of world.old) w
@@ -168,10 +178,12 @@ impl<'a> Steps<'a> {
             → Leads scenario.now.setup world.old world.new (halts_planned scenario.now.setup w writes (planned scenario.now.setup w event.now)) result }
         ensures at { IsAt scenario.now.setup world.new }
         ensures knows { OnOk result (IsTelling scenario.now.setup self.new.telling.names self.new.telling.number self.new.telling.said) }
+        ensures backlogs { OnOk result (AreBacklogs self.new.backlogs (kept_of world.new).brokers) }
         ensures past { (n : ℕ) → result ≡ Err (fault.TooLarge n) → SameWorld world.old world.new }
     {
         let broker_ref = broker_ref_of(scenario, event);
         self.note(alloc, world, scenario, event, broker_ref, false)?;
+        self.backlogs.forget(number_of(scenario, broker_ref));
         world.halt(alloc, scenario, writes, event)?;
         self.tell_event(alloc, world, scenario, event, broker_ref, Indent::Step)?;
         Ok(())
@@ -191,17 +203,51 @@ impl<'a> Steps<'a> {
         requires broker { IsBrokers event.now }
         requires scripted { IsEvent scenario.now.setup event.now }
         requires broker_ref { broker_ref ≡ broker_ref_at scenario.now.setup event.now }
+        requires backlogs { AreBacklogs self.old.backlogs (kept_of world.now).brokers }
         ensures noted { OnOk result (IsSeen self.new.rests (length scenario.now.setup.clusters) (node_at world.now.brokers (node_of scenario.now.setup event.now)).broker self.new.noted) }
         ensures rests { self.new.rests ≡ true → (may_rest ≡ true) × (are_apart (node_at world.now.brokers (node_of scenario.now.setup event.now)).broker.subs ≡ true) }
         ensures telling { self.new.telling ≡ self.old.telling }
         ensures plan { self.new.plan ≡ self.old.plan }
+        ensures has { OnOk result (self.new.rests ≡ false → node_of scenario.now.setup event.now < length self.new.backlogs) }
+        ensures backlogs { OnOk result (AreBacklogs self.new.backlogs (kept_of world.now).brokers) }
     {
         let broker = world.topic(scenario, broker_ref.topic, broker_ref.cluster);
         self.rests = may_rest && are_apart(broker);
         if self.rests {
             return self.noted.note_replicators(broker);
         }
-        self.noted.note(alloc, broker)
+        let number = number_of(scenario, broker_ref);
+        self.backlogs.know(alloc, number, broker)?;
+        self.noted.note(alloc, broker, self.backlogs.counts(number))
+    }
+
+    /// Counts the backlogs of an event's broker on over the event, which is prepared, unless they rest.
+    fn follow(
+        &mut self,
+        alloc: Global,
+        world: &World,
+        scenario: &Scenario,
+        event: &Event,
+        broker_ref: BrokerRef,
+    ) -> Result<(), Memory>
+        requires at { IsAt scenario.now.setup world.now }
+        requires broker { IsBrokers event.now }
+        requires scripted { IsEvent scenario.now.setup event.now }
+        requires broker_ref { broker_ref ≡ broker_ref_at scenario.now.setup event.now }
+        requires has { self.old.rests ≡ false → node_of scenario.now.setup event.now < length self.old.backlogs }
+        requires backlogs { AreBacklogs self.old.backlogs (kept_of world.now).brokers }
+        ensures followed { (per : ℕ) → OnOk result (MayFollow self.old.rests (node_of scenario.now.setup event.now) per (node_at world.now.brokers (node_of scenario.now.setup event.now)).broker self.old.plan self.old.backlogs self.new.backlogs) }
+        ensures telling { self.new.telling ≡ self.old.telling }
+        ensures plan { self.new.plan ≡ self.old.plan }
+        ensures noted { self.new.noted ≡ self.old.noted }
+        ensures rests { self.new.rests ≡ self.old.rests }
+    {
+        if self.rests {
+            return Ok(());
+        }
+        let broker = world.topic(scenario, broker_ref.topic, broker_ref.cluster);
+        let number = number_of(scenario, broker_ref);
+        self.backlogs.follow(alloc, number, broker, &self.plan)
     }
 
     /// The head of an event that was done, and what it changed at the broker that was noted.
@@ -220,10 +266,12 @@ impl<'a> Steps<'a> {
         requires scripted { IsEvent scenario.now.setup event.now }
         requires broker_ref { broker_ref ≡ broker_ref_at scenario.now.setup event.now }
         requires noted { length self.old.noted.replicators.items ≡ length scenario.now.setup.clusters }
+        requires backlogs { AreBacklogs self.old.backlogs (kept_of world.now).brokers }
         ensures told { (b : Machine) → IsSeen self.old.rests (length scenario.now.setup.clusters) b self.old.noted
             → MayRest self.old.rests b (node_at world.now.brokers (node_of scenario.now.setup event.now)).broker
             → OnOk result (telling_of self.new.telling ≡ tells_at indent scenario.now.setup world.now.events event.now b (node_at world.now.brokers (node_of scenario.now.setup event.now)).broker (telling_of self.old.telling)) }
         ensures knows { IsTelling scenario.now.setup self.new.telling.names self.new.telling.number self.new.telling.said }
+        ensures backlogs { OnOk result (AreBacklogs self.new.backlogs (kept_of world.now).brokers) }
     {
         self.telling.begin(alloc, indent, world.events(), event)?;
         let topic = topic_name(scenario.topics(), broker_ref.topic);
@@ -232,8 +280,27 @@ impl<'a> Steps<'a> {
             let noted = self.noted.replicators.as_slice();
             return add_replicator_changes(&mut self.telling.text, indent, topic, broker, noted);
         }
-        add_broker_changes(&mut self.telling.text, indent, topic, broker, &self.noted)
+        let number = number_of(scenario, broker_ref);
+        self.backlogs.know(alloc, number, broker)?;
+        let backlogs = self.backlogs.counts(number);
+        add_broker_changes(
+            &mut self.telling.text,
+            indent,
+            topic,
+            broker,
+            &self.noted,
+            backlogs,
+        )
     }
+}
+
+/// The number of a broker among all.
+fn number_of(scenario: &Scenario, broker_ref: BrokerRef) -> usize
+    requires topic { broker_ref.topic < length scenario.now.setup.topics }
+    requires cluster { broker_ref.cluster < length scenario.now.setup.clusters }
+    ensures { result ≡ node scenario.now.setup broker_ref.topic broker_ref.cluster }
+{
+    broker_ref.topic as usize * scenario.clusters().len() + broker_ref.cluster as usize
 }
 
 /// What is declared of a client.

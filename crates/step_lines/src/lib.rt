@@ -7,6 +7,9 @@
 //! `Err`, it is left open what was appended.
 #![tactic(auto)]
 
+mod acked;
+mod backlog_rows;
+mod backlogs;
 mod broker_changes;
 mod client_changes;
 mod entries;

@@ -1,6 +1,8 @@
 //! What a report shows of a node, noted before an event.
 ghost use Rattle.std.specs.Prelude.{◌≡◌, ◌<◌, length, map, IfOk, OnErr, OnOk};
 ghost use Rattle.broker_subs.specs.Table.{sub_at};
+ghost use Rattle.geo_base.specs.Broker.{backlog};
+ghost use Rattle.step_lines.specs.Backlogs.{backlogs_of};
 ghost use Rattle.step_lines.specs.Noted.{AreReplicators, IsNoted, noted_client, noted_sub, shown_sub};
 
 use crate::replicators::{NotedReplicator, replicator_of};
@@ -53,13 +55,19 @@ impl NotedBroker {
         note_replicators(&mut self.replicators, broker)
     }
 
-    /// Notes a broker as it is.
-    pub(crate) fn note(&mut self, alloc: Global, broker: &Broker) -> Result<(), Memory>
+    /// Notes a broker as it is, whose backlogs these are.
+    pub(crate) fn note(
+        &mut self,
+        alloc: Global,
+        broker: &Broker,
+        backlogs: &[u64],
+    ) -> Result<(), Memory>
+        requires { backlogs.now ≡ backlogs_of broker.now.broker }
         ensures { OnOk result (IsNoted (length broker.now.site.clusters) broker.now.broker self.new) }
     {
         self.entries = broker.store().len();
         note_replicators(&mut self.replicators, broker)?;
-        note_subs(alloc, &mut self.subs, broker)
+        note_subs(alloc, &mut self.subs, broker, backlogs)
     }
 }
 
@@ -74,35 +82,44 @@ fn note_replicators(replicators: &mut Vec<NotedReplicator>, broker: &Broker) -> 
     Ok(())
 }
 
-/// Notes what is shown of each subscription.
-fn note_subs(alloc: Global, subs: &mut Vec<NotedSub>, broker: &Broker) -> Result<(), Memory>
+/// Notes what is shown of each subscription, by their backlogs.
+#[tactic(auto, using(crate::proofs::Counting::backlog_there, crate::proofs::Counting::place_within))]
+fn note_subs(
+    alloc: Global,
+    subs: &mut Vec<NotedSub>,
+    broker: &Broker,
+    backlogs: &[u64],
+) -> Result<(), Memory>
+    requires { backlogs.now ≡ backlogs_of broker.now.broker }
     ensures { OnOk result (subs.new.items ≡ map (noted_sub broker.now.broker) broker.now.broker.subs) }
 {
     subs.clear();
     for place in 0..broker.subs() {
-        subs.push(sub_of(alloc, broker, place)?)?;
+        subs.push(sub_of(alloc, broker, place, backlogs[place])?)?;
     }
     Ok(())
 }
 
-/// What is noted of the subscription at a place.
-fn sub_of(alloc: Global, broker: &Broker, place: usize) -> Result<NotedSub, Memory>
-    requires { place < length broker.now.broker.subs }
+/// What is noted of the subscription at a place, whose backlog this is.
+fn sub_of(alloc: Global, broker: &Broker, place: usize, count: u64) -> Result<NotedSub, Memory>
+    requires place { place < length broker.now.broker.subs }
+    requires count { count ≡ backlog broker.now.broker (sub_at broker.now.broker.subs place) }
     ensures { IfOk result (λ n. n ≡ (noted_sub broker.now.broker (sub_at broker.now.broker.subs place))) }
 {
     match broker.sub(place) {
         Some(sub) => {
             let name = Text::from_str(alloc, sub.name().as_str())?;
-            let shown = shown_of(broker, place);
+            let shown = shown_of(broker, place, count);
             Ok(NotedSub { name, shown })
         }
         None => unreachable!(),
     }
 }
 
-/// What a report shows of the subscription at a place.
-pub(crate) fn shown_of(broker: &Broker, place: usize) -> SubShown
-    requires { place < length broker.now.broker.subs }
+/// What a report shows of the subscription at a place, whose backlog this is.
+pub(crate) fn shown_of(broker: &Broker, place: usize, count: u64) -> SubShown
+    requires place { place < length broker.now.broker.subs }
+    requires count { count ≡ backlog broker.now.broker (sub_at broker.now.broker.subs place) }
     ensures { result ≡ shown_sub broker.now.broker (sub_at broker.now.broker.subs place) }
 {
     match broker.sub(place) {
@@ -110,7 +127,7 @@ pub(crate) fn shown_of(broker: &Broker, place: usize) -> SubShown
             kind: sub.kind(),
             is_replicated: sub.is_replicated(),
             mark: sub.cursor().mark_delete(),
-            backlog: broker.backlog(place),
+            backlog: count,
             seeks: sub.durable().seeks,
         },
         None => unreachable!(),

@@ -1,5 +1,5 @@
 //! The replicators of a broker, noted before an event, and those that are other after it.
-ghost use Rattle.std.specs.Prelude.{◌≡◌, ◌&&◌, ◌==◌, ◌<◌, ◌++◌, length, OnErr, OnOk};
+ghost use Rattle.std.specs.Prelude.{◌≡◌, ◌&&◌, ◌==◌, ◌<◌, ◌++◌, ℕ, List, [], false, length, OnErr, OnOk};
 ghost use Rattle.geo_base.specs.Broker.{Broker as Machine, replicator_at};
 ghost use Rattle.geo_base.specs.Cursor.{mark};
 ghost use Rattle.step_laws.specs.Steps.{change_line, other_replicators, same_state};
@@ -39,6 +39,29 @@ pub(crate) fn same_replicator(a: &NotedReplicator, b: &NotedReplicator) -> bool
     ensures { result ≡ ((a.now.session == b.now.session) && same_state a.now.state b.now.state && (a.now.mark == b.now.mark)) }
 {
     a.session == b.session && a.state == b.state && a.mark == b.mark
+}
+
+/// Whether a replicator to another cluster is other than noted.
+pub(crate) fn is_any_other(broker: &Broker, noted: &[NotedReplicator]) -> bool
+    requires { length noted.now ≡ length broker.now.site.clusters }
+    ensures { (b : Machine) → AreReplicators (length broker.now.site.clusters) b noted.now
+        → result ≡ false → other_replicators broker.now.site.own 0 broker.now.site.clusters b broker.now.broker ≡ [] }
+{
+    for remote in 0..broker.site().clusters().len() {
+        if is_other(broker, remote as u32, &noted[remote]) {
+            return true;
+        }
+    }
+    false
+}
+
+/// Whether the replicator to a cluster is other than noted, and the cluster is not the own one.
+fn is_other(broker: &Broker, remote: u32, noted: &NotedReplicator) -> bool
+    requires { remote < length broker.now.site.clusters }
+    ensures { (b : Machine) (n : List ℕ) → noted.now ≡ noted_of (replicator_at b remote)
+        → result ≡ false → replicator_told broker.now.site.own remote n b broker.now.broker ≡ [] }
+{
+    broker.cluster() != remote && !same_replicator(noted, &replicator_of(broker, remote))
 }
 
 /// Appends the replicators to other clusters that are other than noted.

@@ -3,6 +3,7 @@ ghost use Rattle.std.specs.Prelude.{◌≡◌, [], OnOk};
 ghost use Rattle.step_lines.specs.Telling.{Rises};
 ghost use Rattle.step_lines.specs.Texts.{telling_of};
 
+use crate::backlog_rows::BacklogRows;
 use crate::heads::Indent;
 use crate::noted::NotedBroker;
 use crate::telling::Telling;
@@ -22,6 +23,7 @@ pub struct Steps<'a> {
     pub(crate) plan: Plan,
     pub(crate) noted: NotedBroker,
     pub(crate) rests: bool,
+    pub(crate) backlogs: BacklogRows,
 }
 
 impl<'a> Steps<'a> {
@@ -30,6 +32,7 @@ impl<'a> Steps<'a> {
     pub fn behind(alloc: Global, text: Blob, names: Names<'a>, said: SaidLines<'a>) -> Steps<'a>
         ensures seen { telling_of result.telling ≡ record { text = text; number = 0; said = said.entry } }
         ensures names { result.telling.names ≡ names.entry }
+        ensures backlogs { result.backlogs ≡ [] }
     {
         Steps {
             telling: Telling {
@@ -41,6 +44,7 @@ impl<'a> Steps<'a> {
             plan: Plan::new(alloc),
             noted: NotedBroker::new(alloc),
             rests: false,
+            backlogs: BacklogRows::new(alloc),
         }
     }
 
@@ -53,7 +57,8 @@ impl<'a> Steps<'a> {
 }
 
 impl<'a> Observer for Steps<'a> {
-    ghost use Rattle.step_lines.specs.Telling.{IsTelling, Telling, told_steps};
+    ghost use Rattle.step_lines.specs.Backlogs.{KnowsSteps};
+    ghost use Rattle.step_lines.specs.Telling.{Telling, told_steps};
     ghost use Rattle.step_lines.specs.Texts.{telling_of};
 
     ghost Seen = { Telling };
@@ -62,7 +67,7 @@ impl<'a> Observer for Steps<'a> {
 
     ghost sight = { told_steps };
 
-    ghost knows = { λ o s bs. IsTelling s o.telling.names o.telling.number o.telling.said };
+    ghost knows = { λ o s bs. KnowsSteps s o.telling.names o.telling.number o.telling.said o.backlogs bs };
 
     fn event(
         &mut self,

@@ -5,6 +5,7 @@ ghost use Rattle.geo_base.specs.Happening.{stops};
 ghost use Rattle.geo_base.specs.World.{World as MachineWorld};
 ghost use Rattle.step_laws.specs.Steps.{Did, changed_in};
 ghost use Rattle.step_lines.specs.declared.heads.Indent.TheVariants as indent;
+ghost use Rattle.step_lines.specs.Backlogs.{AreBacklogs};
 ghost use Rattle.step_lines.specs.Changes.{stood_lines};
 ghost use Rattle.step_lines.specs.Stops.{AreNoted, AreNotedTopics, AreTopics, AreWhole, clusters_told, topics_told};
 ghost use Rattle.step_lines.specs.Telling.{IsTelling, tells_step};
@@ -15,6 +16,7 @@ ghost use Rattle.world.specs.World.{AreNodes, IsAt, SameWorld, kept_of};
 ghost use Rattle.kept_laws.specs.Reached.{Reached};
 ghost use Rattle.kept_laws.specs.Standing.{Stands};
 
+use crate::backlogs::add_backlogs;
 use crate::broker_changes::add_broker_changes;
 use crate::heads::{Indent, topic_name};
 use crate::noted::NotedBroker;
@@ -46,12 +48,20 @@ impl<'a> Steps<'a> {
             → Leads scenario.now.setup world.old world.new (stops scenario.now.setup w) result }
         ensures at { IsAt scenario.now.setup world.new }
         ensures knows { OnOk result (IsTelling scenario.now.setup self.new.telling.names self.new.telling.number self.new.telling.said) }
+        ensures backlogs { OnOk result (AreBacklogs self.new.backlogs (kept_of world.new).brokers) }
         ensures past { (n : ℕ) → result ≡ Err (fault.TooLarge n) → SameWorld world.old world.new }
     {
         let noted = noted_topics(alloc, world, scenario)?;
         world.stop(alloc, scenario)?;
+        self.backlogs.forget_all();
         self.telling.add_step(false)?;
-        add_topics(&mut self.telling.text, world, scenario, noted.as_slice())?;
+        add_topics(
+            alloc,
+            &mut self.telling.text,
+            world,
+            scenario,
+            noted.as_slice(),
+        )?;
         Ok(())
     }
 }
@@ -88,7 +98,11 @@ fn noted_topic(
     let mut brokers = Vec::new(alloc);
     for cluster in 0..scenario.clusters().len() {
         let mut noted = NotedBroker::new(alloc);
-        noted.note(alloc, world.topic(scenario, topic, cluster as u32))?;
+        let broker = world.topic(scenario, topic, cluster as u32);
+        let mut backlogs = Vec::new(alloc);
+        add_backlogs(&mut backlogs, broker)?;
+        noted.note(alloc, broker, backlogs.as_slice())?;
+        drop(backlogs);
         brokers.push(noted)?;
     }
     Ok(NotedTopic { brokers })
@@ -96,6 +110,7 @@ fn noted_topic(
 
 /// Appends what is other at all brokers than it was noted.
 fn add_topics(
+    alloc: Global,
     lines: &mut Blob,
     world: &World,
     scenario: &Scenario,
@@ -108,13 +123,14 @@ fn add_topics(
 {
     for topic in 0..scenario.topics().len() {
         let brokers = noted[topic].brokers.as_slice();
-        add_topic(lines, world, scenario, topic as u32, brokers)?;
+        add_topic(alloc, lines, world, scenario, topic as u32, brokers)?;
     }
     Ok(())
 }
 
 /// Appends what is other at the brokers of a topic.
 fn add_topic(
+    alloc: Global,
     lines: &mut Blob,
     world: &World,
     scenario: &Scenario,
@@ -130,7 +146,17 @@ fn add_topic(
     let name = topic_name(scenario.topics(), topic);
     for cluster in 0..scenario.clusters().len() {
         let broker = world.topic(scenario, topic, cluster as u32);
-        add_broker_changes(lines, Indent::Step, name, broker, &noted[cluster])?;
+        let mut backlogs = Vec::new(alloc);
+        add_backlogs(&mut backlogs, broker)?;
+        add_broker_changes(
+            lines,
+            Indent::Step,
+            name,
+            broker,
+            &noted[cluster],
+            backlogs.as_slice(),
+        )?;
+        drop(backlogs);
     }
     Ok(())
 }

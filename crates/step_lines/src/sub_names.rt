@@ -30,7 +30,7 @@ fn has_sub_from(broker: &Broker, first: usize, name: &[u8]) -> bool
 }
 
 /// Whether a subscription has a name.
-fn is_named(sub: &Sub, name: &[u8]) -> bool
+pub(crate) fn is_named(sub: &Sub, name: &[u8]) -> bool
     ensures { result ≡ bytes_eq sub.now.sub.name name.now }
 {
     sub.name().as_str().as_bytes() == name

@@ -1,10 +1,14 @@
 use Rattle.std.proofs.Common.{refl}
 use Rattle.geo_top.proofs.SteppedRuns.{begins_telling, ran_within, told_run}
+use Rattle.step_lines.proofs.Following.{begins_known}
 use Rattle.geo_top.proofs.stepped.tell.Goals as goal
 
 pub run_with-requires-clause-knows : goal.run_with-requires-clause-knows
 run_with-requires-clause-knows c =
-    begins_telling c.args.scenario.now.setup _ c.in_ok-names.names _ c.in_ok-head.head c.args.said c.behind-telling.ensures.seen c.behind-telling.ensures.names c.in_ok-names.ensures.names c.requires.rises
+    record {
+      telling = begins_telling c.args.scenario.now.setup _ c.in_ok-names.names _ c.in_ok-head.head c.args.said c.behind-telling.ensures.seen c.behind-telling.ensures.names c.in_ok-names.ensures.names c.requires.rises;
+      backlogs = begins_known _ _ c.behind-telling.ensures.backlogs;
+    }
 
 pub returns-clause-told : goal.returns-clause-told
 returns-clause-told c =

@@ -5,7 +5,7 @@ use Rattle.step_lines.proofs.Changes.{all_changes_on}
 use Rattle.step_lines.proofs.broker_changes.add_changes.Goals as goal
 
 pub add_other_replicators-requires : goal.add_other_replicators-requires
-add_other_replicators-requires c = ap (λ (ks : List NotedReplicator). length ks) c.as_slice.ensures.value ∙ c.requires
+add_other_replicators-requires c = ap (λ (ks : List NotedReplicator). length ks) c.as_slice.ensures.value ∙ c.requires.replicators
 
 pub returns : goal.returns
 returns c = λ b noted.

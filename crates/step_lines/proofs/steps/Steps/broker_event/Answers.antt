@@ -1,6 +1,7 @@
 use Rattle.std.proofs.Common.{Bool, Ok, Result, ap, ◌∙◌}
 use Rattle.std.proofs.lemmas.Result.{err_from_is_err_and}
 use Rattle.step_lines.specs.Texts.{telling_of}
+use Rattle.step_lines.proofs.Following.{idled_known}
 use Rattle.step_lines.proofs.Told.{always, idle_told, step_told}
 use Rattle.world.specs.declared.fault.RunFault.{RunFault}
 use Rattle.world.specs.declared.fault.RunFault.TheVariants as fault
@@ -23,6 +24,7 @@ returns-in_err-acts c =
           rw (p.1, p.2) (leads_failed c.args.scenario.now.setup c.args.world.now c.acts.new.world _ c.in_err-acts.field-0.0 (c.in_err-acts.ensures.acts w reached stands));
       at = c.acts.ensures.at;
       knows = rw p.1 tt;
+      backlogs = rw p.1 tt;
       past = λ n. rw (p.1, p.2) (λ is. c.in_err-acts.ensures.past n (same_fault (Unit {0}) Bool c.in_err-acts.field-0.0 (fault.TooLarge n) is));
     }
 
@@ -34,6 +36,7 @@ returns-then-branch c =
       leads = λ w reached stands. leads_acted c.args.scenario.now.setup c.args.world.now c.acts.new.world _ _ c.if-branch.true (c.in_ok-acts.ensures.acts w reached stands);
       at = c.acts.ensures.at;
       knows = c.acts.ensures.knows;
+      backlogs = c.in_ok-acts.ensures.backlogs;
       past = λ n is. past_of _ (Ok tt) tt n is;
     }
 
@@ -49,6 +52,7 @@ returns-in_err-add_step c =
       leads = λ w reached stands. rw (p.1, p.2) (wants c.args.scenario.now.setup c.args.world.now c.acts.new.world _);
       at = c.acts.ensures.at;
       knows = rw p.1 tt;
+      backlogs = rw p.1 tt;
       past = λ n is. same;
     }
 
@@ -69,5 +73,6 @@ returns c =
           (λ w reached stands. leads_idled s old mid new _ _ r c.if-branch.false (c.in_ok-acts.ensures.acts w reached stands) c.idles.ensures.ok c.idles.ensures.within c.idles.ensures.large)
           (nodes_idle s mid new r c.acts.ensures.at c.idles.ensures.ok c.idles.ensures.err) (same_err old mid new r same c.idles.ensures.err);
       knows = always _ r (record { names = c.add_step.ensures.names ∙ c.acts.ensures.knows.names; rises = c.add_step.ensures.rises });
+      backlogs = idled_known c.acts.new.self.backlogs mid new r c.idles.ensures.ok c.in_ok-acts.ensures.backlogs;
       past = past_of _ r (same_err old mid new r same c.idles.ensures.err);
     }

@@ -1,8 +1,11 @@
-use Rattle.std.proofs.Common.{ℕ, ◌==◌, ap, ◌∙◌}
+use Rattle.std.proofs.Common.{ℕ, ◌==◌, List, ap, subst, sym, ◌∙◌}
 use Rattle.std.proofs.lemmas.Result.{err_from_is_err_and}
 use Rattle.step_lines.specs.Telling.{client_step, tells_step}
 use Rattle.step_lines.specs.Texts.{telling_of}
 use Rattle.world.specs.ClientSteps.{client_in as log_client}
+use Rattle.step_lines.specs.Backlogs.{AreBacklogs, KnownBacklogs}
+use Rattle.step_lines.proofs.Following.{client_known}
+use Rattle.world.specs.World.{kept_of}
 use Rattle.step_lines.proofs.Told.{client_in, client_noted, client_told, wants_no_limit}
 use Rattle.world.proofs.ClientEvents.{client_below, client_is}
 use Rattle.world.proofs.Leading.{wants}
@@ -41,3 +44,9 @@ client-requires c = client_below c.args.scenario.now.setup c.args.world.now c.ar
 pub tell_client-requires-clause-client : goal.tell_client-requires-clause-client
 tell_client-requires-clause-client c =
     client_below c.args.scenario.now.setup c.event.new.self c.args.client c.event.ensures.at (client_in c.args.scenario.now.setup c.args.client c.args.event.now c.requires.client c.requires.scripted)
+
+pub returns-clause-backlogs : goal.returns-clause-backlogs
+returns-clause-backlogs c =
+    let s = c.args.scenario.now.setup in let h = c.requires.at in let new = c.event.new.self in
+    subst (λ (ks : List KnownBacklogs). AreBacklogs ks (kept_of new).brokers) (sym c.tell_client.ensures.backlogs)
+    (client_known s h.world c.args.world.now new c.args.client c.args.event.now c.args.self.now.backlogs c.requires.client h.stands (c.in_ok-event.ensures.leads h.world h.reached h.stands).done.0 c.requires.backlogs)

@@ -1,4 +1,8 @@
-use Rattle.std.proofs.Common.{Ok, length}
+use Rattle.std.proofs.Common.{◌≡◌, ℕ, ◌<◌, Ok, false, ap, length, subst, sym}
+use Rattle.step_lines.specs.Backlogs.{SameOthers, known_at}
+use Rattle.step_lines.proofs.Following.{halt_known, never_rests, number_there}
+use Rattle.world.proofs.Places.{cluster_below, topic_below}
+use Rattle.world.specs.declared.broker_ref.BrokerRef.{BrokerRef}
 use Rattle.std.proofs.lemmas.Bool.{false≢true}
 use Rattle.std.proofs.lemmas.Result.{err_from_is_err_and}
 use Rattle.step_lines.specs.declared.heads.Indent.TheVariants as indent
@@ -12,7 +16,7 @@ use Rattle.world.proofs.Observing.{past_of}
 use Rattle.step_lines.proofs.steps.Steps.stop_of_broker.Goals as goal
 
 pub note-requires : goal.note-requires
-note-requires c = record { at = c.requires.at; broker = c.requires.broker; scripted = c.requires.scripted; broker_ref = c.broker_ref_of-broker_ref.ensures }
+note-requires c = record { at = c.requires.at; broker = c.requires.broker; scripted = c.requires.scripted; broker_ref = c.broker_ref_of-broker_ref.ensures; backlogs = c.requires.backlogs }
 
 pub returns-in_err-note : goal.returns-in_err-note
 returns-in_err-note c =
@@ -22,6 +26,7 @@ returns-in_err-note c =
       leads = λ w reached stands. rw (p.1, p.2) (wants c.args.scenario.now.setup c.args.world.now c.args.world.now _);
       at = c.requires.at;
       knows = rw p.1 tt;
+      backlogs = rw p.1 tt;
       past = λ n. rw (p.1, p.2) (wants_no_limit (Unit {0}) _ n);
     }
 
@@ -33,11 +38,28 @@ returns-in_err-halt c =
       leads = λ w reached stands. rw (p.1, p.2) (c.in_err-halt.ensures.leads w reached stands);
       at = c.halt.ensures.at;
       knows = rw p.1 tt;
+      backlogs = rw p.1 tt;
       past = λ n is. c.in_err-halt.ensures.err;
     }
 
+pub number_of-requires : goal.number_of-requires
+number_of-requires c =
+    let s = c.args.scenario.now.setup in let e = c.args.event.now in
+    record {
+      topic = topic_below s c.args.world.now e c.broker_ref_of-broker_ref.result.topic c.requires.at c.requires.broker c.requires.scripted (ap (λ (p : BrokerRef). p.topic) c.broker_ref_of-broker_ref.ensures);
+      cluster = cluster_below s e c.broker_ref_of-broker_ref.result.cluster c.requires.broker c.requires.scripted (ap (λ (p : BrokerRef). p.cluster) c.broker_ref_of-broker_ref.ensures);
+    }
+
+pub forget-requires : goal.forget-requires
+forget-requires c =
+    let s = c.args.scenario.now.setup in let e = c.args.event.now in
+    subst (λ (n : ℕ). n < length c.note.new.self.backlogs) (sym (number_there s e c.broker_ref_of-broker_ref.result c.number_of.result c.broker_ref_of-broker_ref.ensures c.number_of.ensures))
+    (c.in_ok-note.ensures.has (never_rests c.note.new.self.rests (λ is. (c.note.ensures.rests is).0)))
+
 pub tell_event-requires : goal.tell_event-requires
 tell_event-requires c =
+    let s = c.args.scenario.now.setup in let e = c.args.event.now in let h = c.requires.at in
+    let there = number_there s e c.broker_ref_of-broker_ref.result c.number_of.result c.broker_ref_of-broker_ref.ensures c.number_of.ensures in
     record {
       at = c.halt.ensures.at;
       knows = from_same c.args.scenario.now.setup c.args.self.now.telling c.note.new.self.telling c.note.ensures.telling c.requires.knows;
@@ -47,6 +69,11 @@ tell_event-requires c =
       noted =
           seen_many c.note.new.self.rests (length c.args.scenario.now.setup.clusters) (node_at c.args.world.now.brokers (node_of c.args.scenario.now.setup c.args.event.now)).broker c.note.new.self.noted
           c.in_ok-note.ensures.noted;
+      backlogs =
+          halt_known s h.world c.args.world.now c.halt.new.self c.args.writes e c.note.new.self.backlogs c.forget.new.self c.requires.broker c.requires.scripted h h.stands
+          (c.in_ok-halt.ensures.leads h.world h.reached h.stands).done.0
+          (subst (λ (n : ℕ). (known_at c.forget.new.self n).is_known ≡ false) there c.forget.ensures.forgot)
+          (subst (λ (n : ℕ). SameOthers n c.note.new.self.backlogs c.forget.new.self) there c.forget.ensures.others) c.in_ok-note.ensures.backlogs;
     }
 
 pub returns-in_err-tell_event : goal.returns-in_err-tell_event
@@ -57,6 +84,7 @@ returns-in_err-tell_event c =
       leads = λ w reached stands. rw (p.1, p.2) (wants c.args.scenario.now.setup c.args.world.now c.halt.new.self _);
       at = c.halt.ensures.at;
       knows = rw p.1 tt;
+      backlogs = rw p.1 tt;
       past = λ n. rw (p.1, p.2) (wants_no_limit (Unit {0}) _ n);
     }
 
@@ -73,5 +101,6 @@ returns c =
       leads = λ w reached stands. c.in_ok-halt.ensures.leads w reached stands;
       at = c.halt.ensures.at;
       knows = c.tell_event.ensures.knows;
+      backlogs = c.in_ok-tell_event.ensures.backlogs;
       past = past_of _ (Ok tt) tt;
     }

@@ -1,10 +1,13 @@
-use Rattle.std.proofs.Common.{ℕ, List, [], ap, length, subst, sym, ◌∙◌}
+use Rattle.std.proofs.Common.{◌≡◌, ℕ, true, List, [], ap, length, subst, sym, ◌∙◌}
 use Rattle.step_lines.specs.declared.replicators.NotedReplicator.{NotedReplicator}
 use Rattle.step_lines.specs.Noted.{AreReplicators}
+use Rattle.step_lines.specs.Backlogs.{KnownBacklogs, SameOthers, TellsBacklogs, backlogs_of, known_at}
+use Rattle.step_lines.proofs.Following.{asked_known, number_there, tells_there}
+use Rattle.kept_laws.specs.Events.{node_of}
 use Rattle.step_lines.proofs.Resting.{as_noted, as_rests, as_replicators}
 use Rattle.std.specs.Prelude.{slice_index_or}
 use Rattle.step_lines.specs.Texts.{telling_of}
-use Rattle.step_lines.proofs.Told.{clusters_there, place_there, told_here}
+use Rattle.step_lines.proofs.Told.{always, clusters_there, place_there, told_here}
 use Rattle.world.specs.declared.broker_ref.BrokerRef.{BrokerRef}
 use Rattle.world.proofs.Places.{cluster_below, topic_below}
 use Rattle.step_lines.proofs.steps.Steps.tell_event.Goals as goal
@@ -52,4 +55,34 @@ returns-clause-told c = λ b noted rested.
 pub add_broker_changes-requires : goal.add_broker_changes-requires
 add_broker_changes-requires c =
     let s = c.args.scenario.now.setup in let e = c.args.event.now in let brokers = c.args.world.now.brokers in let u = c.topic-broker.result.now in
-    clusters_there s c.args.world.now e u _ c.requires.at c.requires.broker c.requires.scripted (place_there s e brokers c.args.broker_ref u c.requires.broker_ref c.topic-broker.ensures) c.requires.noted
+    record {
+      replicators = clusters_there s c.args.world.now e u _ c.requires.at c.requires.broker c.requires.scripted (place_there s e brokers c.args.broker_ref u c.requires.broker_ref c.topic-broker.ensures) c.requires.noted;
+      backlogs = c.counts-backlogs.ensures ∙ ap (λ (k : KnownBacklogs). k.counts) c.in_ok-know.ensures.known;
+    }
+
+pub number_of-number-requires : goal.number_of-number-requires
+number_of-number-requires c =
+    let s = c.args.scenario.now.setup in let e = c.args.event.now in
+    record {
+      topic = topic_below s c.args.world.now e c.args.broker_ref.topic c.requires.at c.requires.broker c.requires.scripted (ap (λ (p : BrokerRef). p.topic) c.requires.broker_ref);
+      cluster = cluster_below s e c.args.broker_ref.cluster c.requires.broker c.requires.scripted (ap (λ (p : BrokerRef). p.cluster) c.requires.broker_ref);
+    }
+
+pub know-requires : goal.know-requires
+know-requires c =
+    let s = c.args.scenario.now.setup in let e = c.args.event.now in let brokers = c.args.world.now.brokers in let u = c.topic-broker.result.now in
+    subst (λ (n : ℕ). TellsBacklogs (known_at c.args.self.now.backlogs n) u.broker) (sym (number_there s e c.args.broker_ref _ c.requires.broker_ref c.number_of-number.ensures))
+    (tells_there c.args.world.now (node_of s e) u c.args.self.now.backlogs (place_there s e brokers c.args.broker_ref u c.requires.broker_ref c.topic-broker.ensures) c.requires.backlogs)
+
+pub returns-then-self-clause-backlogs : goal.returns-then-self-clause-backlogs
+returns-then-self-clause-backlogs c = always _ c.add_replicator_changes.result c.requires.backlogs
+
+pub returns-clause-backlogs : goal.returns-clause-backlogs
+returns-clause-backlogs c =
+    let s = c.args.scenario.now.setup in let e = c.args.event.now in let brokers = c.args.world.now.brokers in let u = c.topic-broker.result.now in
+    let old = c.args.self.now.backlogs in let new = c.know.new.self in
+    let there = number_there s e c.args.broker_ref _ c.requires.broker_ref c.number_of-number.ensures in
+    always _ c.add_broker_changes.result
+    (asked_known c.args.world.now (node_of s e) u old new (place_there s e brokers c.args.broker_ref u c.requires.broker_ref c.topic-broker.ensures)
+    (subst (λ (n : ℕ). known_at new n ≡ record { is_known = true; counts = backlogs_of u.broker }) there c.in_ok-know.ensures.known)
+    (subst (λ (n : ℕ). SameOthers n old new) there c.know.ensures.others) c.requires.backlogs)
