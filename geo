@@ -192,7 +192,7 @@ is_known() { [ -n "$program" ] && "$program" </dev/null 2>/dev/null | tr -c 'a-z
 read_input() {
     input=/dev/null
     case "${words[*]-}" in
-    run | save | resume | trace | audit | 'audit whole' | steps | steps\ from | compact\ * | tiered\ * | live\ *) ;;
+    run | save | resume | trace | audit | 'audit whole' | observe | steps | steps\ from | compact\ * | tiered\ * | live\ *) ;;
     lost\ *\ numbers | lost\ *\ from) ;;
     '' | big* | steps\ * | lost | lost\ *\ *) return ;;
     lost\ *) ;;

@@ -183,7 +183,8 @@ class Markers(Says):
         made.log.append(log('ack', 'west', '0:4'))
         self.says(made, 'FAULT cut at east: the snapshot at 0:2 covers the message west west_shop 0 at 0:4 of west, which did not stand here by then',
                   'note missing at east: the message west west_shop 0')
-        self.says(self.made('0:9'), 'FAULT cut at east: the snapshot at 0:2 names 0:9 of west, where nothing stands', 'note untold', 'note untold')
+        self.says(self.made('0:9'), 'FAULT cut at east: the snapshot at 0:2 names 0:9 of west, where nothing stands',
+                  'FAULT told at east: the update of subscription billing at 0:3 names 0:9 of west, where nothing stands', 'note untold', 'note untold')
         self.says(self.made(local='0:7'), 'FAULT cut at east: the snapshot at 0:2 names its own position 0:7, where nothing stands before it')
 
     def test_told_and_skipped(self):

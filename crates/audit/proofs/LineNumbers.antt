@@ -23,16 +23,16 @@ pub some_piece : (at : ℕ) (bytes : List ℕ) → 0 < length (cut_by at bytes)
 some_piece at bytes = let size = length-slice_split (λ b. b == at) bytes in omega (arith, size)
 
 -- a part that there is, and what comes of it
-record Bound {A B : Type 0} (o : Option A) (f : A → Option B) (b : B) : Type 0 where
-  value : A
-  is : o ≡ Some value
-  then_is : f value ≡ Some b
+pub record Bound {A B : Type 0} (o : Option A) (f : A → Option B) (b : B) : Type 0 where
+  pub value : A
+  pub is : o ≡ Some value
+  pub then_is : f value ≡ Some b
 
-bound : {A B : Type 0} (o : Option A) (f : A → Option B) (b : B) → (o >>= f) ≡ Some b → Bound o f b
+pub bound : {A B : Type 0} (o : Option A) (f : A → Option B) (b : B) → (o >>= f) ≡ Some b → Bound o f b
 bound None f b h = absurd (none-some b h)
 bound (Some a) f b h = record { value = a; is = refl; then_is = h }
 
-declared_within : (names : List Word) (w : Word) (n : ℕ) → declared names w ≡ Some n → n < length names
+pub declared_within : (names : List Word) (w : Word) (n : ℕ) → declared names w ≡ Some n → n < length names
 declared_within names w n h = by (is_among names w) refl h
   where
     by : (b : Bool) → is_among names w ≡ b → (if b then Some (number_in names w) else None) ≡ Some n → n < length names

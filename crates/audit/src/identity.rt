@@ -13,15 +13,15 @@ use std::hash::{Hash, Hasher};
 
 /// The cluster that stored an entry first, its producer there, and the sequence id.
 #[derive(Drop)]
-pub(crate) struct Identity {
-    pub(crate) origin: u32,
-    pub(crate) producer: ProducerName,
-    pub(crate) seq: u64,
+pub struct Identity {
+    pub origin: u32,
+    pub producer: ProducerName,
+    pub seq: u64,
 }
 
 impl Identity {
     /// The identity of an entry.
-    pub(crate) fn of(alloc: Global, ident: &Ident) -> Result<Identity, Memory>
+    pub fn of(alloc: Global, ident: &Ident) -> Result<Identity, Memory>
         ensures { IfOk result (λ identity. identity ≡ identity_of ident.now) }
     {
         Ok(Identity {

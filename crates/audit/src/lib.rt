@@ -32,4 +32,9 @@ mod topic;
 
 pub use audit_of::audit;
 pub use fault::AuditFault;
+pub use identity::Identity;
+pub use named::{first_position, names_each};
+pub use same::{is_same_entry, is_same_position};
+pub use stored::index_at;
 pub use strictness::Strictness;
+pub use sub::{ack_all, may_gain};

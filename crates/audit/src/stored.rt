@@ -212,8 +212,8 @@ fn is_above(positions: &[Position], position: &Position) -> bool
     positions[positions.len() - 1].is_before(position)
 }
 
-/// The index of a position among some that ascend.
-fn index_at(positions: &[Position], position: &Position) -> Option<usize>
+/// The index of a position among some that ascend; None where it is none of them.
+pub fn index_at(positions: &[Position], position: &Position) -> Option<usize>
     requires { Ascend positions.now }
     ensures { result ≡ index_from 0 positions.now position.now }
 {

@@ -89,7 +89,8 @@ impl SubMirror {
     }
 }
 
-fn may_gain(cursor: &Cursor, ranges: &[IndexRange], len: u64) -> bool
+/// Whether all indexes of some ranges are below a length and none of them is acknowledged. It costs a search a range.
+pub fn may_gain(cursor: &Cursor, ranges: &[IndexRange], len: u64) -> bool
     requires { AreApart ranges.now }
     ensures { result ≡ may_gain cursor.now.indexes len ranges.now }
 {
@@ -101,7 +102,8 @@ fn may_gain(cursor: &Cursor, ranges: &[IndexRange], len: u64) -> bool
     true
 }
 
-fn ack_all(cursor: &mut Cursor, ranges: &[IndexRange], len: u64) -> Result<(), Memory>
+/// All indexes of some ranges of a topic of `len` entries are acknowledged. An `Err` is want of memory, and leaves some of them acknowledged.
+pub fn ack_all(cursor: &mut Cursor, ranges: &[IndexRange], len: u64) -> Result<(), Memory>
     requires apart { AreApart ranges.now }
     requires gains { may_gain cursor.old.indexes len ranges.now ≡ true }
     ensures { OnOk result (cursor.new.indexes ≡ with_indexes cursor.old.indexes (indexes_of ranges.now)) }

@@ -76,6 +76,8 @@ HasLiveCause input f status.OutOfMemory = Stood f.source f.source_now × Stood f
 HasLiveCause input f (status.BadState offset rule) = ⊥
 HasLiveCause input f (status.StateVersion number) = ⊥
 HasLiveCause input f (status.AuditRefused event rule) = ⊥
+HasLiveCause input f (status.BadObservation line rule) = ⊥
+HasLiveCause input f status.Found = ⊥
 
 -- where the sink failed: a beginning of an answer, where the source did not fail, and else of the line that tells so
 abbrev pub WentOutPartly : List ℕ → List ℕ → FaultCounts → Type 0

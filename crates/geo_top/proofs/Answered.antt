@@ -31,6 +31,7 @@ use Rattle.geo_top.proofs.Causing.{IsCaused, caused, caused_made, lined}
 use Rattle.geo_top.proofs.Claims.{generated_holds, holds_of}
 use Rattle.geo_top.proofs.GoingOut.{only_answer, same_due, went, went_is, writes}
 use Rattle.geo_top.proofs.GoingOn.{goes_alike, goes_within}
+use Rattle.geo_top.proofs.Judged.{judged}
 use Rattle.geo_top.proofs.OneRun.{kept_is, losses_same, reports_same}
 use Rattle.geo_top.proofs.Quiet.{generated_quiet}
 use Rattle.script_generator.proofs.InRange.{is_scenario}
@@ -54,6 +55,8 @@ cause_of c input f status.OutOfMemory is = absurd is
 cause_of c input f (status.BadState offset rule) is = is
 cause_of c input f (status.StateVersion number) is = is
 cause_of c input f (status.AuditRefused event rule) is = is
+cause_of c input f (status.BadObservation line rule) is = is
+cause_of c input f status.Found is = is
 
 pub answered : (c : Option Command) (input : List ℕ) (a : Answer) (f : FaultCounts) → IsFounded c input a → Stood f.source f.source_now → IsAnswered c input a.bytes f a.status
 answered c input a f founded stood = record {
@@ -85,6 +88,7 @@ answered c input a f founded stood = record {
         (h.1 ∙ losses_same resumed_law n name es (kept_is reached_law n k.kept), (within, holds_of (gone_on n es) k.kept.scenario.setup within), loss_holds n.setup (gone_on n es).steps))
         (told_loss_saved c input a founded name n lines ok is k);
   };
+  observed = judged c input a founded;
   summary = λ number ok is. let big = ok_big c input a number founded ok is in (big.0, (big.1, generated_holds number big.1));
   quiet = generated_quiet;
   cause = cause_of c input f a.status (caused c input a founded.due);
@@ -166,6 +170,7 @@ failed c input output f s fault cause out line = record {
     on_state = λ name is lost. absurd (other is);
     one_run = λ name n lines is lost k. absurd (other is);
   };
+  observed = record { safe = λ is observe. absurd (other is); found = λ is observe. absurd (none is) };
   summary = λ number is big. absurd (other is);
   quiet = generated_quiet;
   cause = cause;
@@ -179,6 +184,9 @@ failed c input output f s fault cause out line = record {
   where
     other : s ≡ status.Ok → ⊥
     other is = subst IsFault is fault
+
+    none : s ≡ status.Found → ⊥
+    none is = subst IsFault is fault
 
 -- the source failed
 pub read_failed : (c : Option Command) (input : List ℕ) (f : FaultCounts) → Reads c → Rose f.source f.source_now → IsAnswered c input (refusal_line status.ReadFault) f status.ReadFault
@@ -207,6 +215,8 @@ part_out c input output f (status.TooLarge limit) k sent h a is = made_part c in
 part_out c input output f (status.BadState offset rule) k sent h a is = made_part c input output f (status.BadState offset rule) k tt h a is
 part_out c input output f (status.StateVersion number) k sent h a is = made_part c input output f (status.StateVersion number) k tt h a is
 part_out c input output f (status.AuditRefused event rule) k sent h a is = made_part c input output f (status.AuditRefused event rule) k tt h a is
+part_out c input output f (status.BadObservation line rule) k sent h a is = made_part c input output f (status.BadObservation line rule) k tt h a is
+part_out c input output f status.Found k sent h a is = made_part c input output f status.Found k tt h a is
 
 pub write_failed : (c : Option Command) (input : List ℕ) (before now sink sink_now k : ℕ) (a : Answer) → IsReady c input before now a → Rose sink sink_now
     → IsAnswered c input (take k a.bytes) (record { source = before; source_now = now; sink = sink; sink_now = sink_now }) status.WriteFault
@@ -226,6 +236,8 @@ made_sent status.OutOfMemory made = made
 made_sent (status.BadState offset rule) made = tt
 made_sent (status.StateVersion number) made = tt
 made_sent (status.AuditRefused event rule) made = tt
+made_sent (status.BadObservation line rule) made = tt
+made_sent status.Found made = tt
 
 -- what is promised of an answer that was made looks at faults of the source alone, of which there were none
 cause_again : (c : Option Command) (input : List ℕ) (f g : FaultCounts) (s : Status) → IsMade s → HasCause c input g s → HasCause c input f s
@@ -239,6 +251,8 @@ cause_again c input f g status.OutOfMemory made is = absurd made
 cause_again c input f g (status.BadState offset rule) made is = is
 cause_again c input f g (status.StateVersion number) made is = is
 cause_again c input f g (status.AuditRefused event rule) made is = is
+cause_again c input f g (status.BadObservation line rule) made is = is
+cause_again c input f g status.Found made is = is
 
 counted_again : (c : Option Command) (input output : List ℕ) (f g : FaultCounts) (s : Status) → IsMade s → Stood f.source f.source_now → IsAnswered c input output g s
     → IsAnswered c input output f s
@@ -256,6 +270,7 @@ counted_again c input output f g s made stood h = record {
   stepped_on = h.stepped_on;
   stepped_big = h.stepped_big;
   lost = h.lost;
+  observed = h.observed;
   summary = h.summary;
   quiet = h.quiet;
   cause = cause_again c input f g s made h.cause;

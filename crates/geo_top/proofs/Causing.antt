@@ -1,11 +1,16 @@
 -- What the status of an answer tells: its cause, and that a refusal is its line.
 use Rattle.std.proofs.lemmas.Bool.{ltb-true}
-use Rattle.std.proofs.Common.{◌≡◌, ◌≢◌, ℕ, Bool, true, false, List, refl, sym, subst, inl, inr}
+use Rattle.std.proofs.Common.{◌≡◌, ◌≢◌, ℕ, Bool, true, false, List, [], ◌∷◌, refl, sym, subst, inl, inr}
 use Rattle.std.specs.Prelude.{Option, Some, None, Result, Ok, Err, IsOkAnd, length, drop, nat_lt, ⊤}
 use Rattle.audit.specs.AuditOf.{audit_by}
 use Rattle.audit.specs.declared.strictness.Strictness.{Strictness}
 use Rattle.geo_base.specs.declared.event.Step.{Step}
 use Rattle.geo_base.specs.Audit.{Refusal as RefusedLine}
+use Rattle.geo_base.specs.Setup.{Setup}
+use Rattle.observation.specs.declared.finding.Finding.{Finding}
+use Rattle.observation.specs.Findings.{findings_of}
+use Rattle.observation.specs.Observed.{Observation}
+use Rattle.observed_text.specs.Starts.{declarations_before}
 use Rattle.script_text.specs.Rules.{script_of}
 use Rattle.script_text.specs.Schedule.{schedule_of}
 use Rattle.script_text.specs.Script.{Fault, Script}
@@ -22,10 +27,10 @@ use Rattle.geo_top.specs.declared.top.command.Reading.TheVariants as reading
 use Rattle.geo_top.specs.declared.top.command.Shown.{Shown}
 use Rattle.geo_top.specs.declared.top.status.Status.{Status}
 use Rattle.geo_top.specs.declared.top.status.Status.TheVariants as status
-use Rattle.geo_top.specs.Causes.{HasBadLine, HasBadState, HasRefusedLine, IsExceeded, RunExceeds}
-use Rattle.geo_top.specs.Commands.{auditing_command, command_resuming, command_showing, lost_command, lost_on_command, resume_command, steps_on_command}
+use Rattle.geo_top.specs.Causes.{HasBadLine, HasBadObservation, HasBadState, HasFindings, HasRefusedLine, IsExceeded, RunExceeds}
+use Rattle.geo_top.specs.Commands.{auditing_command, command_resuming, command_showing, lost_command, lost_on_command, observe_command, resume_command, steps_on_command}
 use Rattle.geo_top.specs.Losing.{declaring, lost_of, lost_on}
-use Rattle.geo_top.specs.Outputs.{IsAnswerFor, IsAnswerToBytes, UnlessLarge, answer_going_on, answer_to, answer_to_audited, answer_to_generated, answer_to_judged, answer_to_loaded, answer_to_losing, answer_to_losing_loaded, answer_to_losing_on, answer_to_resumed, answer_to_save, answer_to_steps, answer_to_steps_on, big_steps, output_of, exceeded_limit, resumed_limit, resumed_report, steps_declaring, summary_of, unless_exceeded}
+use Rattle.geo_top.specs.Outputs.{IsAnswerFor, IsAnswerToBytes, UnlessLarge, answer_going_on, answer_to, answer_to_audited, answer_to_findings, answer_to_generated, answer_to_judged, answer_to_loaded, answer_to_losing, answer_to_losing_loaded, answer_to_losing_on, answer_to_observed, answer_to_resumed, answer_to_save, answer_to_seen, answer_to_steps, answer_to_steps_on, big_steps, output_of, exceeded_limit, observation_in, resumed_limit, resumed_report, steps_declaring, summary_of, unless_exceeded}
 use Rattle.geo_top.specs.States.{file_of, stopped}
 use Rattle.geo_top.specs.Statuses.{IsMade, refusal_line}
 use Rattle.geo_top.specs.Stepped.{steps_of, steps_on}
@@ -44,6 +49,8 @@ IsCaused c input status.OutOfMemory = ⊥
 IsCaused c input (status.BadState offset rule) = HasBadState c input (bad_state offset rule)
 IsCaused c input (status.StateVersion number) = HasBadState c input (version number)
 IsCaused c input (status.AuditRefused event rule) = HasRefusedLine c input (record { event = event; rule = rule })
+IsCaused c input (status.BadObservation line rule) = HasBadObservation c input (record { line = line; rule = rule })
+IsCaused c input status.Found = HasFindings c input
 
 some_command : (c : Command) → Some c ≢ None
 some_command c e = cc e
@@ -127,6 +134,25 @@ caused_audit : (k : Strictness) (input : List ℕ) (r : Result Script Fault) →
 caused_audit k input (Ok n) script = caused_judged k input n (audit_by k n.setup (trace_in input)) script refl
 caused_audit k input (Err f) script = script
 
+caused_findings : (input : List ℕ) (n : Script) (o : Observation) (fs : List Finding) → script_of (declarations_before input) ≡ Ok n → observation_in input n ≡ Ok o
+    → findings_of n.setup o ≡ fs → IsCaused (Some observe_command) input (answer_to_findings n.setup o fs).status
+caused_findings input n o [] script seen is = some_command observe_command
+caused_findings input n o (f ∷ fs) script seen is = (
+  refl,
+  ok_with (script_of (declarations_before input)) n (λ m. IsOkAnd (observation_in input m) (λ q. findings_of m.setup q ≢ [])) script
+      (ok_with (observation_in input n) o (λ q. findings_of n.setup q ≢ []) seen (λ none. cc (none, is))),
+)
+
+caused_seen : (input : List ℕ) (n : Script) (r : Result Observation Fault) → script_of (declarations_before input) ≡ Ok n → observation_in input n ≡ r
+    → IsCaused (Some observe_command) input (answer_to_seen n.setup r).status
+caused_seen input n (Ok o) script seen = caused_findings input n o (findings_of n.setup o) script seen refl
+caused_seen input n (Err f) script seen = (refl, ok_with (script_of (declarations_before input)) n (λ m. observation_in input m ≡ Err f) script seen)
+
+caused_observe : (input : List ℕ) (r : Result Script Fault) → script_of (declarations_before input) ≡ r
+    → IsCaused (Some observe_command) input (answer_to_observed input r).status
+caused_observe input (Ok n) script = caused_seen input n (observation_in input n) script refl
+caused_observe input (Err f) script = script
+
 caused_bytes : (r : Reading) (input : List ℕ) (a : Answer) → IsAnswerToBytes r input a → IsCaused (Some (command.Reads r)) input a.status
 caused_bytes (reading.Script v) input a is =
     subst (λ (a : Answer). IsCaused (Some (command_showing v)) input a.status) (sym is) (caused_script v input (script_of input) refl)
@@ -142,6 +168,8 @@ caused_bytes (reading.Lost name names) input a is =
     subst (λ (a : Answer). IsCaused (Some (lost_command name names)) input a.status) (sym is) (caused_losing name names input (declaring name input (script_of input)) refl)
 caused_bytes (reading.LostOn name) input a is =
     subst (λ (a : Answer). IsCaused (Some (lost_on_command name)) input a.status) (sym is.2) (caused_losing_file name input is.0 is.1)
+caused_bytes reading.Observe input a is =
+    subst (λ (a : Answer). IsCaused (Some observe_command) input a.status) (sym is) (caused_observe input (script_of (declarations_before input)) refl)
 
 caused_input : (t : Bool) (r : Reading) (input : List ℕ) (a : Answer) → nat_lt 67108864 (length input) ≡ t → UnlessLarge t a (IsAnswerToBytes r input a)
     → IsCaused (Some (command.Reads r)) input a.status
@@ -181,10 +209,13 @@ caused_made c input status.OutOfMemory cause = absurd cause
 caused_made c input (status.BadState offset rule) cause = tt
 caused_made c input (status.StateVersion number) cause = tt
 caused_made c input (status.AuditRefused event rule) cause = tt
+caused_made c input (status.BadObservation line rule) cause = tt
+caused_made c input status.Found cause = tt
 
 -- ---- a refusal is its line
 abbrev pub IsLine : Status → List ℕ → Type 0
 IsLine status.Ok bytes = ⊤
+IsLine status.Found bytes = ⊤
 IsLine s bytes = bytes ≡ refusal_line s
 
 abbrev Lined : Answer → Type 0
@@ -244,6 +275,18 @@ line_audit : (k : Strictness) (trace : List ℕ) (r : Result Script Fault) → L
 line_audit k trace (Ok n) = line_judged (audit_by k n.setup trace)
 line_audit k trace (Err f) = refl
 
+line_findings : (s : Setup) (o : Observation) (fs : List Finding) → Lined (answer_to_findings s o fs)
+line_findings s o [] = tt
+line_findings s o (f ∷ fs) = tt
+
+line_seen : (s : Setup) (r : Result Observation Fault) → Lined (answer_to_seen s r)
+line_seen s (Ok o) = line_findings s o (findings_of s o)
+line_seen s (Err f) = refl
+
+line_observe : (input : List ℕ) (r : Result Script Fault) → Lined (answer_to_observed input r)
+line_observe input (Ok n) = line_seen n.setup (observation_in input n)
+line_observe input (Err f) = refl
+
 line_bytes : (r : Reading) (input : List ℕ) (a : Answer) → IsAnswerToBytes r input a → Lined a
 line_bytes (reading.Script v) input a is = subst Lined (sym is) (line_script v (script_of input))
 line_bytes reading.Save input a is = subst Lined (sym is) (line_save (script_of input))
@@ -252,6 +295,7 @@ line_bytes (reading.Audit k) input a is = subst Lined (sym is) (line_audit k (tr
 line_bytes reading.Steps input a is = subst Lined (sym is) (line_told input (script_of input))
 line_bytes (reading.Lost name names) input a is = subst Lined (sym is) (line_losing name names (declaring name input (script_of input)))
 line_bytes (reading.LostOn name) input a is = subst Lined (sym is.2) (line_losing_file name input is.0)
+line_bytes reading.Observe input a is = subst Lined (sym is) (line_observe input (script_of (declarations_before input)))
 
 line_input : (t : Bool) (r : Reading) (input : List ℕ) (a : Answer) → UnlessLarge t a (IsAnswerToBytes r input a) → Lined a
 line_input true r input a is = subst Lined (sym is) refl

@@ -32,6 +32,7 @@ one_bytes (reading.Audit k) input a d own is = own ∙ sym is
 one_bytes reading.Steps input a d own is = own ∙ sym is
 one_bytes (reading.Lost name names) input a d own is = own ∙ sym is
 one_bytes (reading.LostOn name) input a d own is = one_losing name input a d own is
+one_bytes reading.Observe input a d own is = own ∙ sym is
 
 one_input : (t : Bool) (r : Reading) (input : List ℕ) (a d : Answer) → UnlessLarge t a (IsAnswerToBytes r input a) → UnlessLarge t d (IsAnswerToBytes r input d) → a ≡ d
 one_input true r input a d own is = own ∙ sym is
@@ -65,6 +66,8 @@ went c due f status.OutOfMemory output made is = absurd made
 went c due f (status.BadState offset rule) output made is = is
 went c due f (status.StateVersion number) output made is = is
 went c due f (status.AuditRefused event rule) output made is = is
+went c due f (status.BadObservation line rule) output made is = is
+went c due f status.Found output made is = is
 
 -- and it was that answer
 pub went_is : (c : Option Command) (due : Answer) (f : FaultCounts) (s : Status) (output : List ℕ) → IsMade s → WentOut c due f s output → output ≡ due.bytes
@@ -78,6 +81,8 @@ went_is c due f status.OutOfMemory output made is = absurd made
 went_is c due f (status.BadState offset rule) output made is = is
 went_is c due f (status.StateVersion number) output made is = is
 went_is c due f (status.AuditRefused event rule) output made is = is
+went_is c due f (status.BadObservation line rule) output made is = is
+went_is c due f status.Found output made is = is
 
 pub writes : (s : Status) (output : List ℕ) → IsMade s → IsLine s output → WritesLine s output
 writes status.Ok output made line = tt
@@ -90,3 +95,5 @@ writes status.OutOfMemory output made line = absurd made
 writes (status.BadState offset rule) output made line = line
 writes (status.StateVersion number) output made line = line
 writes (status.AuditRefused event rule) output made line = line
+writes (status.BadObservation l rule) output made line = line
+writes status.Found output made line = tt

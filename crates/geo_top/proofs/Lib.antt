@@ -30,6 +30,7 @@ pub mod Losing
 pub mod Causing
 pub mod Answering
 pub mod GoingOut
+pub mod Judged
 pub mod Answered
 pub mod Inputs
 pub mod TracedRuns

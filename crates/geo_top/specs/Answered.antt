@@ -21,7 +21,7 @@ use Rattle.geo_top.specs.declared.top.command.Shown.TheVariants as shown
 use Rattle.geo_top.specs.declared.top.status.Status.{Status}
 use Rattle.geo_top.specs.declared.top.status.Status.TheVariants as status
 use Rattle.geo_top.specs.Audits.{IsAuditedSafe, audit_line}
-use Rattle.geo_top.specs.Causes.{HasBadLine, HasBadState, HasRefusedLine, IsExceeded}
+use Rattle.geo_top.specs.Causes.{HasBadLine, HasBadObservation, HasBadState, HasFindings, HasRefusedLine, IsExceeded}
 use Rattle.geo_top.specs.Claims.{HoldsOf, HoldsWithin}
 use Rattle.geo_top.specs.Commands.{Reads, audit_command, command_showing, resume_command, run_command, save_command, steps_command, steps_on_command}
 use Rattle.geo_top.specs.OneRun.{GoesOnAlike, IsKept, IsSavedWith, counted_on, lines_before, text_on}
@@ -29,6 +29,7 @@ use Rattle.geo_top.specs.Outputs.{IsAnswerFor, answer_to, answer_to_audit, answe
 use Rattle.geo_top.specs.States.{file_of, gone_on, stopped}
 use Rattle.geo_top.specs.Statuses.{IsDue, IsMade, refusal_line}
 use Rattle.geo_top.specs.Stepped.{AreAllSaid, AreAllSaidOn, AreAllWritten, steps_of, steps_on}
+use Rattle.geo_top.specs.Judged.{IsJudged}
 use Rattle.geo_top.specs.ToldLoss.{IsToldLoss}
 use Rattle.geo_top.specs.Traced.{traced_of}
 use Rattle.geo_top.specs.Wholly.{IsJudgedWhole}
@@ -62,6 +63,7 @@ WentOut c due f s output = output ≡ due.bytes
 abbrev pub WritesLine : Status → List ℕ → Type 0
 WritesLine status.Ok output = ⊤
 WritesLine status.WriteFault output = ⊤
+WritesLine status.Found output = ⊤
 WritesLine s output = output ≡ refusal_line s
 
 -- ---- why a call ends so
@@ -77,6 +79,8 @@ HasCause c input f (status.TooLarge limit) = IsExceeded c input limit
 HasCause c input f status.OutOfMemory = Stood f.source f.source_now × Stood f.sink f.sink_now
 HasCause c input f (status.BadState offset rule) = HasBadState c input (bad_state offset rule)
 HasCause c input f (status.StateVersion number) = HasBadState c input (version number)
+HasCause c input f (status.BadObservation line rule) = HasBadObservation c input (record { line = line; rule = rule })
+HasCause c input f status.Found = HasFindings c input
 HasCause c input f (status.AuditRefused event rule) = HasRefusedLine c input (record { event = event; rule = rule })
 
 -- ---- what holds with Ok
@@ -126,6 +130,8 @@ pub record IsAnswered (c : Option Command) (input output : List ℕ) (f : FaultC
   pub stepped_big : (number : ℕ) → s ≡ status.Ok → c ≡ Some (command.BigSteps number) → (output ≡ big_steps number) × HoldsWithin (generated_run number) × AreAllWritten (generated_run number)
   -- `lost` writes what is lost if a cluster goes.
   pub lost : IsToldLoss c input output s
+  -- `observe` writes what is found against an observation, or that it is safe.
+  pub observed : IsJudged c input output s
   -- `big` writes the summary of the machine's run over the generated schedule, of which all holds too; at its end all is quiet.
   pub summary : (number : ℕ) → s ≡ status.Ok → c ≡ Some (command.Big number) → (output ≡ summary_of number) × HoldsWithin (generated_run number)
   pub quiet : (number : ℕ) → let n = generated_run number in is_quiet n.setup (run n.setup n.steps) ≡ true

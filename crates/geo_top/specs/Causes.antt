@@ -1,8 +1,10 @@
 -- Why the program refuses.
-use Rattle.std.specs.Prelude.{◌≡◌, ◌⊎◌, ℕ, ◌<◌, List, length, drop, Option, Some, None, IsOkAnd, Ok, Err}
+use Rattle.std.specs.Prelude.{◌≡◌, ◌≢◌, ◌⊎◌, ℕ, ◌<◌, List, [], length, drop, Option, Some, None, IsOkAnd, Ok, Err}
 use Rattle.audit.specs.AuditOf.{audit_by}
 use Rattle.audit.specs.declared.strictness.Strictness.{Strictness}
 use Rattle.geo_base.specs.Audit.{Refusal as RefusedLine}
+use Rattle.observation.specs.Findings.{findings_of}
+use Rattle.observed_text.specs.Starts.{declarations_before}
 use Rattle.script_text.specs.Rules.{script_of}
 use Rattle.script_text.specs.Schedule.{schedule_of}
 use Rattle.script_text.specs.Script.{Fault}
@@ -14,9 +16,9 @@ use Rattle.geo_top.specs.declared.top.command.Command.TheVariants as command
 use Rattle.geo_top.specs.declared.top.command.GoingOn.{GoingOn}
 use Rattle.geo_top.specs.declared.top.command.Reading.{Reading}
 use Rattle.geo_top.specs.declared.top.command.Reading.TheVariants as reading
-use Rattle.geo_top.specs.Commands.{Reads, auditing_command, command_resuming, lost_on_command}
+use Rattle.geo_top.specs.Commands.{Reads, auditing_command, command_resuming, lost_on_command, observe_command}
 use Rattle.geo_top.specs.Losing.{declaring}
-use Rattle.geo_top.specs.Outputs.{exceeded_limit, resumed_limit, steps_declaring}
+use Rattle.geo_top.specs.Outputs.{exceeded_limit, observation_in, resumed_limit, steps_declaring}
 use Rattle.geo_top.specs.States.{stopped}
 use Rattle.script_generator.specs.Generated.{generated_run}
 
@@ -31,6 +33,7 @@ HasBadLineIn reading.Steps input f = script_of input ≡ Err f
 HasBadLineIn (reading.Lost name names) input f = declaring name input (script_of input) ≡ Err f
 HasBadLineIn (reading.LostOn name) input f =
     (s : SavedState) × (used : ℕ) × IsLoaded input (Ok (s, used)) × (steps_declaring name input s used ≡ Err f)
+HasBadLineIn reading.Observe input f = script_of (declarations_before input) ≡ Err f
 
 abbrev pub HasBadLine : Option Command → List ℕ → Fault → Type 0
 HasBadLine None input f = ⊥
@@ -45,6 +48,7 @@ RunExceeds reading.Save input limit = IsOkAnd (script_of input) (λ n. exceeded_
 RunExceeds (reading.Resume v) input limit = (s : SavedState) × (used : ℕ) × IsLoaded input (Ok (s, used))
     × IsOkAnd (schedule_of s.scenario.setup (drop used input)) (λ es. resumed_limit s es ≡ Some limit)
 RunExceeds (reading.Audit k) input limit = ⊥
+RunExceeds reading.Observe input limit = ⊥
 RunExceeds reading.Steps input limit = IsOkAnd (script_of input) (λ n. exceeded_limit n ≡ Some limit)
 RunExceeds (reading.Lost name names) input limit = IsOkAnd (declaring name input (script_of input)) (λ n. exceeded_limit n ≡ Some limit)
 RunExceeds (reading.LostOn name) input limit = (s : SavedState) × (used : ℕ) × IsLoaded input (Ok (s, used))
@@ -71,3 +75,12 @@ HasBadState c input r = ReadsState c × IsLoaded input (Err r)
 abbrev pub HasRefusedLine : Option Command → List ℕ → RefusedLine → Type 0
 HasRefusedLine c input r =
     (k : Strictness) × (c ≡ Some (auditing_command k)) × IsOkAnd (script_of (declarations_in input)) (λ n. audit_by k n.setup (trace_in input) ≡ Err r)
+
+-- a line of an observation that is refused
+abbrev pub HasBadObservation : Option Command → List ℕ → Fault → Type 0
+HasBadObservation c input f = (c ≡ Some observe_command) × IsOkAnd (script_of (declarations_before input)) (λ n. observation_in input n ≡ Err f)
+
+-- something is found against an observation
+abbrev pub HasFindings : Option Command → List ℕ → Type 0
+HasFindings c input =
+    (c ≡ Some observe_command) × IsOkAnd (script_of (declarations_before input)) (λ n. IsOkAnd (observation_in input n) (λ o. findings_of n.setup o ≢ []))

@@ -1,5 +1,6 @@
 -- The commands of the program, by its words: `run`, `save`, `resume`, `audit`, `audit whole`, `trace`, `steps`, `steps from`,
--- `steps big NUMBER`, `big NUMBER`, `compact HORIZON`, `tiered KEEP`, and `lost CLUSTER`, alone or with `numbers` or `from` after it.
+-- `steps big NUMBER`, `big NUMBER`, `compact HORIZON`, `tiered KEEP`, `lost CLUSTER`, alone or with `numbers` or `from` after it, and
+-- `observe`.
 -- Any other words are none (own).
 use Rattle.std.specs.Prelude.{◌≡◌, ℕ, Bool, true, false, ◌&&◌, if◌then◌else◌, List, [], ◌∷◌, Option, Some, None, codes}
 use Rattle.std.specs.Str.{bytes_eq}
@@ -63,6 +64,9 @@ audit_of_word w = if bytes_eq w (codes "whole") then Some whole_command else Non
 abbrev pub steps_command : Command
 steps_command = command.Reads reading.Steps
 
+abbrev pub observe_command : Command
+observe_command = command.Reads reading.Observe
+
 -- the horizon of a compacted view: no run stores more entries than it has events
 abbrev pub most_horizon : ℕ
 most_horizon = 2000000
@@ -94,6 +98,7 @@ alone_of w =
     else if bytes_eq w (codes "audit") then Some audit_command
     else if bytes_eq w (codes "trace") then Some trace_command
     else if bytes_eq w (codes "steps") then Some steps_command
+    else if bytes_eq w (codes "observe") then Some observe_command
     else None
 
 -- what is lost if a cluster goes, with the messages' names or without; and of a run that goes on from a state

@@ -26,6 +26,7 @@ IsKnown (reading.Audit k) input = ⊤
 IsKnown reading.Steps input = IsAccepted (script_of input)
 IsKnown (reading.Lost name names) input = IsAccepted (script_of input)
 IsKnown (reading.LostOn name) input = ⊤
+IsKnown reading.Observe input = ⊤
 
 abbrev pub IsKnownFor : Option Command → List ℕ → Status → Type 0
 IsKnownFor None input s = ⊤

@@ -18,5 +18,6 @@ pub mod Finished
 pub mod Claims
 pub mod OneRun
 pub mod ToldLoss
+pub mod Judged
 pub mod Answered
 pub mod Founded

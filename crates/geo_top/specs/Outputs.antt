@@ -1,5 +1,5 @@
 -- What the program answers to words and the bytes of an input: how it ends, and what it writes.
-use Rattle.std.specs.Prelude.{◌≡◌, ℕ, nat_lt, Bool, true, false, List, length, drop, Option, Some, None, Result, Ok, Err}
+use Rattle.std.specs.Prelude.{◌≡◌, ℕ, ◌+◌, nat_lt, Bool, true, false, List, [], ◌∷◌, length, drop, Option, Some, None, Result, Ok, Err}
 use Rattle.audit.specs.AuditOf.{audit_by}
 use Rattle.audit.specs.declared.strictness.Strictness.{Strictness}
 use Rattle.audit.specs.declared.strictness.Strictness.TheVariants as strictness
@@ -7,6 +7,15 @@ use Rattle.geo_base.specs.declared.event.Step.{Step}
 use Rattle.geo_base.specs.Audit.{Refusal}
 use Rattle.geo_base.specs.Report.{report}
 use Rattle.geo_base.specs.Run.{all_limits, run, run_under}
+use Rattle.geo_base.specs.Setup.{Setup}
+use Rattle.observation.specs.declared.finding.Finding.{Finding}
+use Rattle.observation.specs.Findings.{findings_of}
+use Rattle.observation.specs.Observed.{Observation}
+use Rattle.observe.specs.Topics.{entries_in}
+use Rattle.observed_text.specs.Findings.{findings_text}
+use Rattle.observed_text.specs.Observing.{read_observation}
+use Rattle.observed_text.specs.Starts.{declarations_before, observed_in}
+use Rattle.script_text.specs.Lines.{lines_of}
 use Rattle.script_text.specs.Rules.{script_of}
 use Rattle.script_text.specs.Schedule.{schedule_of}
 use Rattle.script_text.specs.Script.{Fault, Script}
@@ -158,6 +167,33 @@ answer_to_auditing k input = answer_to_audited k (trace_in input) (script_of (de
 abbrev pub answer_to_audit : List ℕ → Answer
 answer_to_audit input = answer_to_auditing strictness.Plain input
 
+-- ---- to a script's declarations with an observation after them. The number of its head is that of the line after the declarations.
+-- ---- Steps of the script are read, and not looked at
+abbrev pub found_status : List Finding → Status
+found_status [] = status.Ok
+found_status (f ∷ fs) = status.Found
+
+abbrev pub answer_to_findings : Setup → Observation → List Finding → Answer
+answer_to_findings s o fs = record { status = found_status fs; bytes = findings_text s (entries_in o.topics) fs }
+
+abbrev pub answer_to_seen : Setup → Result Observation Fault → Answer
+answer_to_seen s (Ok o) = answer_to_findings s o (findings_of s o)
+answer_to_seen s (Err f) = refused (status.BadObservation f.line f.rule)
+
+abbrev pub head_line : List ℕ → ℕ
+head_line input = length (lines_of (declarations_before input)) + 1
+
+-- what the bytes after the declarations say, or the line that is refused
+abbrev pub observation_in : List ℕ → Script → Result Observation Fault
+observation_in input n = read_observation n.setup (head_line input) (observed_in input)
+
+abbrev pub answer_to_observed : List ℕ → Result Script Fault → Answer
+answer_to_observed input (Ok n) = answer_to_seen n.setup (observation_in input n)
+answer_to_observed input (Err f) = refused (status.BadScript f.line f.rule)
+
+abbrev pub answer_to_observing : List ℕ → Answer
+answer_to_observing input = answer_to_observed input (script_of (declarations_before input))
+
 -- ---- to a number
 -- the bytes of the summary of a number's generated run
 abbrev pub summary_of : ℕ → List ℕ
@@ -186,6 +222,7 @@ IsAnswerToBytes (reading.Audit k) input a = a ≡ answer_to_auditing k input
 IsAnswerToBytes reading.Steps input a = a ≡ answer_to_steps input (script_of input)
 IsAnswerToBytes (reading.Lost name names) input a = a ≡ answer_to_losing name names (declaring name input (script_of input))
 IsAnswerToBytes (reading.LostOn name) input a = IsAnswerToLosingFile name input a
+IsAnswerToBytes reading.Observe input a = a ≡ answer_to_observing input
 
 abbrev pub UnlessLarge : Bool → Answer → Type 0 → Type 0
 UnlessLarge true a P = a ≡ refused (status.TooLarge 1)

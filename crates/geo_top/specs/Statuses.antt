@@ -15,11 +15,14 @@ status_number status.OutOfMemory = 8
 status_number (status.BadState offset rule) = 9
 status_number (status.StateVersion number) = 9
 status_number (status.AuditRefused event rule) = 10
+status_number (status.BadObservation line rule) = 3
+status_number status.Found = 11
 
--- the one line that a refusal writes. Want of memory writes nothing, and a write fault has no line of its own
+-- The one line that a refusal writes. Want of memory writes nothing, and a write fault has no line of its own; what is found against an
+-- observation is no refusal
 abbrev pub refusal_line : Status → List ℕ
 refusal_line status.Ok = []
-refusal_line status.Usage = codes "usage: geo run, live WORKERS TURNS, big NUMBER, save, resume, audit, compact HORIZON, tiered KEEP, trace, steps, steps from, steps big NUMBER, audit whole, lost CLUSTER, lost CLUSTER numbers, lost CLUSTER from\n"
+refusal_line status.Usage = codes "usage: geo run, live WORKERS TURNS, big NUMBER, save, resume, audit, compact HORIZON, tiered KEEP, trace, steps, steps from, steps big NUMBER, audit whole, lost CLUSTER, lost CLUSTER numbers, lost CLUSTER from, observe\n"
 refusal_line (status.BadScript line rule) = codes "bad script line " ++ (decimal line ++ (codes " rule " ++ (decimal rule ++ 10 ∷ [])))
 refusal_line status.ReadFault = codes "read fault\n"
 refusal_line status.WriteFault = []
@@ -28,6 +31,8 @@ refusal_line status.OutOfMemory = []
 refusal_line (status.BadState offset rule) = codes "bad state at " ++ (decimal offset ++ (codes " rule " ++ (decimal rule ++ 10 ∷ [])))
 refusal_line (status.StateVersion number) = codes "bad state version " ++ (decimal number ++ 10 ∷ [])
 refusal_line (status.AuditRefused event rule) = codes "audit refused " ++ (decimal event ++ (codes " rule " ++ (decimal rule ++ 10 ∷ [])))
+refusal_line (status.BadObservation line rule) = codes "bad observation line " ++ (decimal line ++ (codes " rule " ++ (decimal rule ++ 10 ∷ [])))
+refusal_line status.Found = []
 
 -- neither source nor sink nor memory failed
 abbrev pub IsMade : Status → Type 0

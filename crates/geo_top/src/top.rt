@@ -7,6 +7,7 @@ pub mod command;
 mod declared;
 mod given_back;
 pub mod losing;
+pub mod observing;
 pub mod scripts;
 pub mod states;
 pub mod status;

@@ -10,7 +10,7 @@ use std::test::Fail;
 
 /// What the program prints for words that are no command.
 pub const USAGE: &[u8] =
-    b"usage: geo run, live WORKERS TURNS, big NUMBER, save, resume, audit, compact HORIZON, tiered KEEP, trace, steps, steps from, steps big NUMBER, audit whole, lost CLUSTER, lost CLUSTER numbers, lost CLUSTER from\n";
+    b"usage: geo run, live WORKERS TURNS, big NUMBER, save, resume, audit, compact HORIZON, tiered KEEP, trace, steps, steps from, steps big NUMBER, audit whole, lost CLUSTER, lost CLUSTER numbers, lost CLUSTER from, observe\n";
 
 /// The words of a command line.
 pub fn words_of(alloc: Global, line: &[&str]) -> Result<Vec<Word>, Fail> {

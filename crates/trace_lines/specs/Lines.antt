@@ -2,6 +2,7 @@
 use Rattle.std.specs.Prelude.{ℕ, ◌==◌, if◌then◌else◌, List, [], ◌∷◌, Option, Some, None, codes}
 use Rattle.std.specs.Str.{bytes_eq}
 use Rattle.cursor_acks.specs.Ranges.{indexes_of}
+use Rattle.geo_base.specs.declared.entry.Entry.{Entry}
 use Rattle.geo_base.specs.declared.entry.Ident.{Ident}
 use Rattle.geo_base.specs.declared.planned.Cause.{Cause}
 use Rattle.geo_base.specs.declared.planned.Cause.TheVariants as cause
@@ -29,6 +30,21 @@ append_of clusters x (p ∷ o ∷ n ∷ q ∷ l ∷ ws) = do
   seq ← number q
   append_with clusters x position (record { origin = origin; producer = producer; seq = seq }) l ws
 append_of clusters x ws = None
+
+-- an entry with its position, as a report shows it: of a cluster that is none of those where it stands
+abbrev pub appended : Option Act → Option (Position × Entry)
+appended (Some (Appends p e by)) = Some (p, e)
+appended (Some (Creates n latest)) = None
+appended (Some (Deletes n)) = None
+appended (Some (Acks n is c)) = None
+appended (Some (Seeks n i)) = None
+appended None = None
+
+abbrev pub no_cluster : ℕ
+no_cluster = 4294967295
+
+abbrev pub entry_of : List Word → List Word → Option (Position × Entry)
+entry_of clusters ws = appended (append_of clusters no_cluster ws)
 
 abbrev pub create_of : List Word → Option Act
 create_of (n ∷ w ∷ []) = do

@@ -15,6 +15,9 @@ mod texts;
 mod words;
 
 pub use line::{Line, Written};
-pub use lines::{begun_event, line_of};
-pub use names::Names;
+pub use lines::{begun_event, entry_of, line_of, ranges_of};
+pub use names::{Names, declared};
+pub use numbers::{number, position_of};
 pub use ranges::AckedRanges;
+pub use texts::{sub_of, text_of};
+pub use words::LineWords;

@@ -1,7 +1,7 @@
 //! Lines.
 ghost use Rattle.std.specs.Prelude.{◌≡◌, ◌<◌, ℕ, [], ◌∷◌, Some, length, option_map, IfNone, IfOk, IfSome, MatchOption};
 ghost use Rattle.geo_base.specs.TraceItems.{Begins};
-ghost use Rattle.trace_lines.specs.Lines.{ack_of, act_of, append_of, append_with, cause_of, create_of, delete_of, event_of, item_read, seek_of, write_of};
+ghost use Rattle.trace_lines.specs.Lines.{ack_of, act_of, append_of, append_with, cause_of, create_of, delete_of, entry_of, event_of, item_read, seek_of, write_of};
 ghost use Rattle.trace_lines.specs.Names.{DeclaredNames};
 ghost use Rattle.trace_lines.specs.Ranges.{ranges_from, ranges_of};
 ghost use Rattle.trace_lines.specs.Said.{act_said, item_said};
@@ -14,7 +14,7 @@ use crate::numbers::{may_follow, number, position_of, range_of};
 use crate::ranges::AckedRanges;
 use crate::texts::{sub_of, text_in};
 use crate::words::LineWords;
-use geo_base::{Cause, Memory, Position, Text, name_text};
+use geo_base::{Cause, Entry, Memory, Position, Text, name_text};
 use script_rows::{Parts, is_word};
 use std::alloc::Global;
 
@@ -112,6 +112,34 @@ fn written_of(
         seek_of(alloc, words)
     } else {
         Ok(None)
+    }
+}
+
+/// A number that no cluster has, so that no entry is of the cluster where it stands, and an update has no ` by L:E` after it.
+const NO_CLUSTER: u32 = u32::MAX;
+
+/// `POSITION ORIGIN PRODUCER SEQ LIST WHAT`: an entry with its position, as a report shows it; None exactly where the words have not this
+/// form.
+pub fn entry_of(
+    alloc: Global,
+    names: &Names<'_>,
+    words: &mut LineWords<'_>,
+) -> Result<Option<(Position, Entry)>, Memory>
+    ensures { IfOk result (λ placed. placed ≡ entry_of names.now.clusters words.old) }
+{
+    match append_of(alloc, names, NO_CLUSTER, words)? {
+        Some(
+            Written::Appends {
+                position,
+                entry,
+                by: _,
+            },
+        ) => Ok(Some((position, entry))),
+        Some(other) => {
+            drop(other);
+            Ok(None)
+        }
+        None => Ok(None),
     }
 }
 
@@ -293,9 +321,9 @@ fn cause_of(words: &mut LineWords<'_>) -> Option<Cause>
     }
 }
 
-/// Ranges of indexes, with commas.
+/// Ranges of indexes, with commas; None exactly where the word has not this form.
 #[tactic(auto, using(crate::proofs::SoFar::ranges_so_far))]
-fn ranges_of(alloc: Global, word: &[u8]) -> Result<Option<AckedRanges>, Memory>
+pub fn ranges_of(alloc: Global, word: &[u8]) -> Result<Option<AckedRanges>, Memory>
     ensures { IfOk result (λ ranges. ranges ≡ ranges_of word.now) }
 {
     let mut ranges = AckedRanges::new(alloc);

@@ -60,7 +60,7 @@ impl<'a> Names<'a> {
     }
 
     /// The clusters by their names.
-    pub(crate) fn clusters(&self) -> &NameTable<'a>
+    pub fn clusters(&self) -> &NameTable<'a>
         ensures names { result.now ≡ self.now.clusters }
         ensures few { length result.now ≤ CLUSTERS }
     {
@@ -68,7 +68,7 @@ impl<'a> Names<'a> {
     }
 
     /// The topics by their names.
-    pub(crate) fn topics(&self) -> &NameTable<'a>
+    pub fn topics(&self) -> &NameTable<'a>
         ensures { result.now ≡ self.now.topics }
     {
         &self.topics
@@ -111,8 +111,8 @@ fn add_names<'a, K>(table: &mut NameTable<'a>, names: &'a [Name<K>]) -> Result<(
     Ok(())
 }
 
-/// The number of a name that is declared.
-pub(crate) fn declared(names: &NameTable<'_>, word: &[u8]) -> Option<u32>
+/// The number of a name that is declared; None exactly where none is.
+pub fn declared(names: &NameTable<'_>, word: &[u8]) -> Option<u32>
     ensures { result ≡ declared names.now word.now }
 {
     names.find(word)

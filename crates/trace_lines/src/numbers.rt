@@ -8,16 +8,16 @@ use cursor_acks::IndexRange;
 use geo_base::Position;
 use script_rows::{cut_at, number_of};
 
-/// A number of 64 bits.
-pub(crate) fn number(word: &[u8]) -> Option<u64>
+/// A number of 64 bits; None exactly where the word is none.
+pub fn number(word: &[u8]) -> Option<u64>
     ensures { result ≡ number word.now }
 {
     number_of(word, u64::MAX)
 }
 
-/// `L:E`
+/// `L:E`; None exactly where the word has not this form.
 #[tactic(auto, using(script_rows::proofs::WordParts::no_pair, script_rows::proofs::WordParts::has_parts))]
-pub(crate) fn position_of(word: &[u8]) -> Option<Position>
+pub fn position_of(word: &[u8]) -> Option<Position>
     ensures { result ≡ position_of word.now }
 {
     let (ledger, entry) = cut_at(word, b':')?;

@@ -42,8 +42,8 @@ pub(crate) fn text_in(word: &[u8]) -> Option<&str>
     }
 }
 
-/// A text.
-pub(crate) fn text_of(alloc: Global, word: &[u8]) -> Result<Option<Text>, Memory>
+/// A text: one byte at least, each printable; None exactly where the word is none.
+pub fn text_of(alloc: Global, word: &[u8]) -> Result<Option<Text>, Memory>
     ensures { IfOk result (λ text. text ≡ text_of word.now) }
 {
     match text_in(word) {
@@ -65,8 +65,8 @@ pub(crate) fn key_of(alloc: Global, word: &[u8]) -> Result<Option<Option<Text>>,
     }
 }
 
-/// The name of a subscription.
-pub(crate) fn sub_of(alloc: Global, word: &[u8]) -> Result<Option<Text>, Memory>
+/// The name of a subscription; None exactly where the word is none.
+pub fn sub_of(alloc: Global, word: &[u8]) -> Result<Option<Text>, Memory>
     ensures { IfOk result (λ name. name ≡ sub_of word.now) }
 {
     match name_text(word) {

@@ -7,7 +7,7 @@ use std::marker::Model;
 
 /// The words of a line that are left: they stand between spaces, and two spaces in a row have an empty word between them.
 #[derive(Drop)]
-pub(crate) struct LineWords<'a> {
+pub struct LineWords<'a> {
     rest: Option<&'a [u8]>,
 }
 
@@ -23,14 +23,14 @@ impl<'a> Model for LineWords<'a> {
 
 impl<'a> LineWords<'a> {
     /// The words of a line.
-    pub(crate) fn new(line: &'a [u8]) -> LineWords<'a>
+    pub fn new(line: &'a [u8]) -> LineWords<'a>
         ensures { result ≡ words_of line.now }
     {
         LineWords { rest: Some(line) }
     }
 
     /// The next word.
-    pub(crate) fn next_word(&mut self) -> Option<&'a [u8]>
+    pub fn next_word(&mut self) -> Option<&'a [u8]>
         ensures { MatchOption result (self.old ≡ []) (λ word. self.old ≡ word.now ∷ self.new) }
     {
         let rest = self.rest?;
@@ -47,7 +47,7 @@ impl<'a> LineWords<'a> {
     }
 
     /// The next two words.
-    pub(crate) fn next_two(&mut self) -> Option<(&'a [u8], &'a [u8])>
+    pub fn next_two(&mut self) -> Option<(&'a [u8], &'a [u8])>
         ensures { MatchOption result (length self.old < 2) (λ two. self.old ≡ two.0.now ∷ two.1.now ∷ self.new) }
     {
         let first = self.next_word()?;
@@ -56,7 +56,7 @@ impl<'a> LineWords<'a> {
     }
 
     /// The one word that is left; None where none is left, or more.
-    pub(crate) fn last_word(&mut self) -> Option<&'a [u8]>
+    pub fn last_word(&mut self) -> Option<&'a [u8]>
         ensures { MatchOption result ((word : List ℕ) → self.old ≢ word ∷ []) (λ word. self.old ≡ word.now ∷ []) }
     {
         let word = self.next_word()?;
@@ -67,7 +67,7 @@ impl<'a> LineWords<'a> {
     }
 
     /// The two words that are left; None where fewer are left, or more.
-    pub(crate) fn last_two(&mut self) -> Option<(&'a [u8], &'a [u8])>
+    pub fn last_two(&mut self) -> Option<(&'a [u8], &'a [u8])>
         ensures { MatchOption result ((first second : List ℕ) → self.old ≢ first ∷ second ∷ []) (λ two. self.old ≡ two.0.now ∷ two.1.now ∷ []) }
     {
         let first = self.next_word()?;
@@ -76,7 +76,7 @@ impl<'a> LineWords<'a> {
     }
 
     /// All that is left of the line, as one text; None where no word is left.
-    pub(crate) fn text(&self) -> Option<&'a [u8]>
+    pub fn text(&self) -> Option<&'a [u8]>
         ensures { MatchOption result (self.now ≡ []) (λ text. self.now ≡ words_of text.now) }
     {
         self.rest

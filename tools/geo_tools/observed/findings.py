@@ -10,7 +10,7 @@ FAULTS = {
     'twice': 'a message stands twice, or those of a producer stand out of order',
     'nowhere': 'an entry does not stand in its cluster\'s topic, or another one does, or it was not meant to come here',
     'cut': 'the positions of a snapshot do not belong together',
-    'told': 'an update says that messages are done with which nobody dealt with',
+    'told': 'an update says that messages are done with which nobody dealt with, or names a position where nothing stands',
     'skipped': 'a cursor has a message that nobody acknowledged and that no creation at Latest or seek passed over',
     'order': 'entries of one cluster stand in another order than there',
     'unreceived': 'a replicator\'s cursor has a message that does not stand in the other cluster',

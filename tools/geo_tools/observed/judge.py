@@ -34,12 +34,12 @@ class Judge:
         """Takes a finding of an entry, with its file and line."""
         self.say(rule, cluster, text, identity or entry.identity, sub, entry.where)
 
-    def judged(self):
-        """All findings in order."""
+    def judged(self, verdict=None):
+        """All findings in order; those that are faults by a verdict, where there is one."""
         for rule in (entry_rules.once, entry_rules.carried, entry_rules.survivors, entry_rules.receipts, cursor_rules.cursors,
                      cursor_rules.repeats, cursor_rules.redelivered, marker_rules.own_markers, marker_rules.told, relaxed.relaxed):
             rule(self)
-        return joined(self.found)
+        return joined(verdict.faults(self.seen, self.found) if verdict else self.found)
 
     def may_be_settled(self, sub, entry):
         """Whether a line whose message can't be told may have dealt with it: the message is not to be seen in that line's cluster."""
@@ -83,6 +83,6 @@ class Judge:
         for entry in there.entries:
             if entry.is_message() and entry.is_for(cluster):
                 mine = self.by_identity[cluster].get(entry.identity)
-                most = max(most, mine.index if mine else absent)
+                most = max(most, mine.index if mine and mine.content == entry.content else absent)
             out.append(most)
         return out

@@ -3,6 +3,9 @@
     tools/observed planted [--folders 1000] [--first 0] [--kind KIND] [SCRIPT ..]   each fault is found and named, and no other is said
     tools/observed moving [--folders 200] [--first 0] [--kind KIND] [SCRIPT ..]     read while all moved: no fault is said
 
+Each of these folders is judged by the program (`geo observe`) and by the rules of this package, and both are to find the same; but for folders
+with beginnings deleted, which the program does not judge.
+
 The runs are of the scripts that are named, of each kind of random script (geo_tools random) where none is. Of a healthy folder of each run no fault may be
 said, at rest also none of the trace, before faults are planted. --unseen leaves out a cluster of each folder, --trimmed deletes beginnings.
 """
@@ -25,6 +28,7 @@ from .judge import Judge
 from .plants import KINDS, Files
 from .second_opinion import audited, explainable
 from .trace import Explained
+from .verdict import compared
 
 # how many faults of those that went wrong are shown
 SHOWN = 3
@@ -40,16 +44,25 @@ def scripts(words):
 
 
 class Count:
-    """What was tried and what went wrong, told as it goes."""
+    """What was tried and what went wrong, told as it goes. `program`: the program that judges too; none where it is not compared."""
 
-    def __init__(self):
-        self.tried, self.wrong = collections.Counter(), 0
+    def __init__(self, program=None):
+        self.tried, self.wrong, self.program, self.compared = collections.Counter(), 0, program, 0
 
     def add(self, kind, name, failure=None):
         self.tried[kind] += 1
         if failure:
             self.wrong += 1
             print('WRONG %s: %s: %s' % (name, kind, failure), flush=True)
+
+    def differs(self, folder):
+        """In which findings the two judges of a folder differ, '' for none and where the program is not asked."""
+        if not self.program:
+            return ''
+        self.compared += 1
+        ours, theirs, agrees = compared(folder, self.program)
+        told = ['said here alone: %s' % (it,) for it in sorted(ours, key=str)[:SHOWN]] + ['said by the program alone: %s' % (it,) for it in sorted(theirs, key=str)[:SHOWN]]
+        return '\n  '.join(told + ([] if agrees else ['the program answers otherwise than it found']))
 
 
 def faults(folder):
@@ -94,19 +107,19 @@ def plant_all(name, script, program, count, folders):
     with tempfile.TemporaryDirectory() as top:
         healthy = os.path.join(top, 'healthy')
         of_runs.at_rest(script, program).write(healthy)
-        count.add('healthy', name, shown(faults(healthy)) or unexplained(healthy, program))
+        count.add('healthy', name, shown(faults(healthy)) or unexplained(healthy, program) or count.differs(healthy))
         for kind in KINDS:
             if count.tried.total() - count.tried['healthy'] < folders:
                 folder = os.path.join(top, kind.__name__)
                 wrong = planted_one(kind, healthy, folder, name)
                 if wrong is not None:
-                    count.add(kind.__name__, name, wrong)
+                    count.add(kind.__name__, name, wrong or count.differs(folder))
                     shutil.rmtree(folder)
 
 
 def planted(words, program):
     """Plants so many faults; gives what was tried."""
-    count = Count()
+    count = Count(program.path)
     for name, script in scripts(words):
         if count.tried.total() - count.tried['healthy'] >= words.folders:
             break
@@ -116,7 +129,7 @@ def planted(words, program):
 
 def moving(words, program):
     """Judges so many folders that were read while all moved."""
-    count = Count()
+    count = Count(None if words.trimmed else program.path)
     for number, (name, script) in enumerate(scripts(words)):
         if count.tried.total() >= words.folders:
             break
@@ -128,7 +141,7 @@ def moving(words, program):
         unseen = [made.clusters[number % len(made.clusters)]] if words.unseen else []
         with tempfile.TemporaryDirectory() as folder:
             made.write(folder, unseen, words.trimmed)
-            count.add('in motion' if words.moving else 'at rest', name, shown(faults(folder)))
+            count.add('in motion' if words.moving else 'at rest', name, shown(faults(folder)) or count.differs(folder))
     return count
 
 
@@ -153,5 +166,5 @@ def main(words):
     for kind, tried in sorted(count.tried.items()):
         print('%5d  %s' % (tried, kind))
     folders = count.tried.total() - count.tried['healthy']
-    print('%d folders, %d wrong' % (folders, count.wrong))
+    print('%d folders, %d wrong%s' % (folders, count.wrong, ', %d judged by the program too' % count.compared if count.program else ''))
     return 1 if count.wrong or folders < known.folders else 0

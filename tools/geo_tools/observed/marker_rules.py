@@ -45,7 +45,7 @@ def _covered(judge, topic, entry, there, place, needs):
     elif needs[there.at[place]] > local:
         for source in there.entries[:there.at[place] + 1]:
             mine = judge.by_identity[topic.cluster].get(source.identity)
-            if source.is_message() and source.is_for(topic.cluster) and (mine is None or mine.index > local):
+            if source.is_message() and source.is_for(topic.cluster) and (mine is None or mine.content != source.content or mine.index > local):
                 judge.say_of('cut', topic.cluster, '%s covers the %s at %s of %s, which did not stand here by then' % (
                     name, source, source.place, there.cluster), entry, identity=source.identity)
                 return
@@ -87,12 +87,21 @@ def told(judge):
                 there, sub = judge.seen.topics[of], update.marker.sub
                 if not there.seen or of == origin:
                     continue
+                if _is_unplaced(judge, there, place):
+                    judge.say_of('told', cluster, 'the update of subscription %s at %s names %s of %s, where nothing stands' % (
+                        sub, update.place, shown(place), of), update, sub)
+                    continue
                 if (origin, sub, of) not in first:
                     first[origin, sub, of] = _first_unsettled(judge, there, origin, sub)
                 entry = first[origin, sub, of]
                 if entry is not None and entry.position <= place:
                     judge.say_of('told', cluster, 'the update of subscription %s at %s names %s of %s, and nobody acknowledged the %s at %s there' % (
                         sub, update.place, shown(place), of, entry, entry.place), update, sub)
+
+
+def _is_unplaced(judge, there, place):
+    """Whether nothing stands at a position, which was neither deleted nor stored later than what was read."""
+    return place not in there.at and not there.is_gone(place) and (judge.seen.quiet or not there.is_newer(place))
 
 
 def _first_unsettled(judge, there, origin, sub):

@@ -232,7 +232,7 @@ def text_changed(files):
     found = files.choose(files.brought())
     if found:
         files.entries[found[0]][found[1].index]['payload'] = base64.b64encode(b'another text').decode()
-        return Plant(('nowhere',), found[0], found[1].identity, None, ('gap', 'unreceived'))
+        return Plant(('nowhere',), found[0], found[1].identity, None, ('gap', 'unreceived', 'cut'), files.names_of(found[0], found[1]))
 
 
 def key_changed(files):
@@ -240,7 +240,7 @@ def key_changed(files):
     found = files.choose(files.brought())
     if found:
         files.entries[found[0]][found[1].index]['headers']['X-Pulsar-partition-key'] = 'another_key'
-        return Plant(('nowhere',), found[0], found[1].identity, None, ('gap', 'unreceived'))
+        return Plant(('nowhere',), found[0], found[1].identity, None, ('gap', 'unreceived', 'cut'), files.names_of(found[0], found[1]))
 
 
 def made_up(files):
@@ -341,7 +341,7 @@ def marker_missing(files):
     if found:
         cluster, entry = found
         del files.entries[cluster][entry.index]
-        return Plant(('gap',), cluster, None, None, ('unreceived', 'cut', 'skipped', 'order'),
+        return Plant(('gap',), cluster, None, None, ('unreceived', 'cut', 'skipped', 'order', 'told'),
                      ('%s of %s' % (m.WORDS[type(entry.marker)], entry.identity.origin), ' %s ' % entry.place, ' %s,' % entry.place))
 
 

@@ -5,33 +5,12 @@ The search is greedy. An append stands as early as its causes let it; an acknowl
 operator did as late as anything else can go on without it. Where all is stuck, the line that waits for nothing which may still come is
 written all the same, so that the audit refuses it by its rule.
 """
-import re
-
 from . import markers
+from .entry_words import EntryWords, ranges_text
 from .phases import names_at, phases_of
 from .places import shown
 
-# the names and the words that a trace may have; where Pulsar's are others, the trace has names of its own
-NAME, WORD = re.compile(r'[a-z0-9_]{1,16}\Z'), re.compile(r'[!-~]{1,200}\Z')
 TOPIC = 't'
-
-
-class Names:
-    """Names of a trace for those of Pulsar: the same where a trace may have it."""
-
-    def __init__(self, letter, form):
-        self.letter, self.form, self.known, self.taken = letter, form, {}, set()
-
-    def of(self, name):
-        if name not in self.known:
-            alias = name
-            if not self.form.match(name) or name in self.taken or name == '-':
-                alias = '%s%d' % (self.letter, len(self.known))
-                while alias in self.taken:
-                    alias += '_'
-            self.known[name] = alias
-            self.taken.add(alias)
-        return self.known[name]
 
 
 class Waits:
@@ -41,27 +20,13 @@ class Waits:
         self.text, self.comes, self.sub = text, comes, sub
 
 
-def ranges_text(indexes):
-    """Ascending indexes as FIRST-LAST with commas."""
-    out = []
-    for index in indexes:
-        if out and out[-1][1] + 1 == index:
-            out[-1][1] = index
-        else:
-            out.append([index, index])
-    return ','.join('%d-%d' % (first, last) for first, last in out) or '-'
-
-
 class Explained:
     """The lines of a trace for one observation, and what nothing explains."""
 
     def __init__(self, judge):
         self.judge, self.seen = judge, judge.seen
         self.lines, self.unexplained = [], []
-        self.clusters, self.subs = Names('c', NAME), Names('s', NAME)
-        self.producers, self.keys = Names('p', WORD), Names('k', WORD)
-        for cluster in self.seen.clusters:
-            self.clusters.of(cluster)
+        self.words = EntryWords(self.seen.clusters)
         self.next = {cluster: 0 for cluster in self.seen.clusters}
         self.stands = {cluster: set() for cluster in self.seen.clusters}
         self.snapshots = {cluster: {} for cluster in self.seen.clusters}
@@ -73,7 +38,7 @@ class Explained:
 
     def text(self):
         """The trace."""
-        head = ['geo 1', *('cluster ' + self.clusters.of(cluster) for cluster in self.seen.clusters), 'topic ' + TOPIC, 'trace']
+        head = ['geo 1', *('cluster ' + self.words.clusters.of(cluster) for cluster in self.seen.clusters), 'topic ' + TOPIC, 'trace']
         for number, line in enumerate(self.lines, 1):
             head += ['event %d' % number, line]
         return '\n'.join(head) + '\n'
@@ -166,28 +131,8 @@ class Explained:
 
     # lines
 
-    def _pairs(self, remote):
-        return ['%s=%s' % (self.clusters.of(cluster), shown(place)) for cluster, place in remote]
-
-    def _what(self, entry):
-        """What an entry is, in the words of a trace."""
-        marker = entry.marker
-        if marker is None:
-            return ['data', '-' if entry.key is None else self.keys.of(entry.key), entry.digest]
-        if isinstance(marker, markers.Request):
-            return ['request', marker.snapshot, self.clusters.of(marker.source)]
-        if isinstance(marker, markers.Response):
-            return ['response', marker.snapshot, *self._pairs([marker.pair])]
-        if isinstance(marker, markers.Snapshot):
-            return ['snapshot', marker.snapshot, shown(marker.local), *self._pairs(marker.remote)]
-        if isinstance(marker, markers.Update):
-            return ['update', self.subs.of(marker.sub), *self._pairs(marker.remote)]
-        return ['unread']
-
     def _append(self, cluster, entry, by):
-        named = [self.clusters.of(it) for it in self.seen.clusters if entry.to is not None and it in entry.to]
-        words = ['append', TOPIC, self.clusters.of(cluster), entry.place, self.clusters.of(entry.identity.origin), self.producers.of(entry.identity.producer),
-                 str(entry.identity.sequence), '*' if entry.to is None else ','.join(named) or '?', *self._what(entry)]
+        words = ['append', TOPIC, self.words.clusters.of(cluster), *self.words.entry(entry)]
         self.lines.append(' '.join(words + (['by', shown(by)] if by is not None else [])))
         self.next[cluster] = entry.index + 1
         if entry.identity.origin == cluster:
@@ -196,7 +141,7 @@ class Explained:
                 self.snapshots[cluster].setdefault(tuple(sorted(entry.marker.remote)), []).append(entry)
 
     def _of_sub(self, word, cluster, sub, *more):
-        self.lines.append(' '.join([word, TOPIC, self.clusters.of(cluster), self.subs.of(sub), *more]))
+        self.lines.append(' '.join([word, TOPIC, self.words.clusters.of(cluster), self.words.subs.of(sub), *more]))
 
     # subscriptions
 

@@ -1,7 +1,7 @@
 """Says why the program refuses an input: the place, what is wrong, the nearest right word, what is expected.
 
-usage: geo why FILE                          of a script, a trace, or a state with events behind it
-       geo why --explain [audit | state] RULE     a rule's whole text
+usage: geo why FILE                          of a script, a trace, an observation, or a state with events behind it
+       geo why --explain [audit | observation | state] RULE     a rule's whole text
 
 ./geo calls it by itself behind each refused call, so it is seldom needed: `geo why FILE` runs the file again and says the same. It judges
 nothing: the program says which line or item breaks which rule, and this finds the word in it.
@@ -16,7 +16,7 @@ from . import audits, rules, scripts, states
 from .forms import near
 from .told import Refusal, document, words_of
 
-COMMANDS = {'run': 0, 'live': 2, 'big': 1, 'save': 0, 'resume': 0, 'audit': 0, 'compact': 1, 'tiered': 1, 'trace': 0, 'steps': 0, 'lost': 1}
+COMMANDS = {'run': 0, 'live': 2, 'big': 1, 'save': 0, 'resume': 0, 'audit': 0, 'compact': 1, 'tiered': 1, 'trace': 0, 'steps': 0, 'lost': 1, 'observe': 0}
 # the word that may stand behind audit, so that it judges gaps as well
 WHOLE = 'whole'
 TOOLS = ('drill', 'story', 'page', 'why', 'check', 'help')
@@ -73,6 +73,9 @@ def of_script(raw, name, line, rule, command):
     if command[:1] == ['audit']:
         head = raw.split(b'\ntrace\n', 1)
         raw = head[0] + b'\n' if len(head) > 1 else raw
+    if command[:1] == ['observe']:
+        head = re.split(rb'\nobserved(?: quiet)?\n', raw, maxsplit=1)
+        raw = head[0] + b'\n' if len(head) > 1 else raw
     if states.is_state(raw):
         return Refusal(file=name, line=line, said='this is a state file, not a script: ./geo resume goes on from it', rule_of='script', rule=rule)
     script = scripts.Script(raw)
@@ -118,6 +121,17 @@ def of_audit(raw, name, event, rule, command=('audit',)):
     return told._replace(line=line, text=text, said='the line is refused, after the line `event %d`: %s' % (event, row[0]))
 
 
+def of_observation(raw, name, line, rule):
+    """The refusal of a line of an observation."""
+    lines = raw.split(b'\n')
+    text = lines[line - 1].decode('utf-8', errors='replace') if line <= len(lines) and lines[line - 1] else None
+    if not any(it in (b'observed', b'observed quiet') for it in lines[:-1]):
+        return Refusal(file=name, line=line, said='no line `observed` stands behind the declarations', rule_of='observation', rule=rule)
+    if line == len(lines):
+        return Refusal(file=name, line=line, text=text, said='the last line has no line feed', rule_of='observation', rule=rule)
+    return Refusal(file=name, line=line, text=text, said=rules.row('observation', rule)[0], rule_of='observation', rule=rule)
+
+
 def of_state(raw, name, offset, rule):
     """The refusal of an item of a state."""
     told = Refusal(file=name, rule_of='state', rule=rule)
@@ -135,6 +149,9 @@ def refusal(status, answer, raw, name, command):
     found = re.fullmatch(r'bad script line (\d+) rule (\d+)\n', answer)
     if found:
         return of_script(raw, name, int(found[1]), int(found[2]), command)
+    found = re.fullmatch(r'bad observation line (\d+) rule (\d+)\n', answer)
+    if found:
+        return of_observation(raw, name, int(found[1]), int(found[2]))
     found = re.fullmatch(r'audit refused (\d+) rule (\d+)\n', answer)
     if found:
         return of_audit(raw, name, int(found[1]), int(found[2]), command or ('audit',))
@@ -169,7 +186,7 @@ def explain(words):
     if len(rest) == 1 and rest[0].isdigit():
         lines = rules.explained(of, int(rest[0]))
     if lines is None:
-        print('geo why: --explain takes a rule\'s number, with audit or state before it for theirs', file=sys.stderr)
+        print('geo why: --explain takes a rule\'s number, with audit, observation or state before it for theirs', file=sys.stderr)
         return 2
     print('\n'.join(lines))
     return 0
@@ -183,5 +200,5 @@ def main(words):
         return 0 if words and words[0] in ('-h', '--help') else 2
     # the wrapper runs it and tells
     raw = read(words[0])
-    command = 'resume' if states.is_state(raw) else 'audit' if b'\ntrace\n' in raw else 'run'
+    command = 'resume' if states.is_state(raw) else 'audit' if b'\ntrace\n' in raw else 'observe' if re.search(rb'\nobserved(?: quiet)?\n', raw) else 'run'
     return subprocess.run([ROOT + '/geo', command, words[0]], check=False).returncode

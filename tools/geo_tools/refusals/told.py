@@ -1,7 +1,7 @@
 """What is told of a refusal: a place, what is wrong, the line with carets, what is expected, and the rule."""
 from collections import namedtuple
 
-# `rule_of` is 'script', 'audit' or 'state', whose page has the rule; `line`, `column` and `width` may be None; columns count from 1
+# `rule_of` is 'script', 'audit', 'observation' or 'state', whose page has the rule; `line`, `column` and `width` may be None; columns count from 1
 Refusal = namedtuple('Refusal', 'file line column width said near text expected rule_of rule remedy')
 Refusal.__new__.__defaults__ = (None,) * len(Refusal._fields)
 

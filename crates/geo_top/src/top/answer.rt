@@ -32,7 +32,7 @@ fn refusal_line(alloc: Global, status: Status) -> Result<String, Memory>
     match status {
         Status::Usage => Ok(String::from_str(
             alloc,
-            "usage: geo run, live WORKERS TURNS, big NUMBER, save, resume, audit, compact HORIZON, tiered KEEP, trace, steps, steps from, steps big NUMBER, audit whole, lost CLUSTER, lost CLUSTER numbers, lost CLUSTER from\n",
+            "usage: geo run, live WORKERS TURNS, big NUMBER, save, resume, audit, compact HORIZON, tiered KEEP, trace, steps, steps from, steps big NUMBER, audit whole, lost CLUSTER, lost CLUSTER numbers, lost CLUSTER from, observe\n",
         )?),
         Status::BadScript { line, rule } => ruled_line(alloc, "bad script line ", line, rule),
         Status::ReadFault => Ok(String::from_str(alloc, "read fault\n")?),
@@ -42,7 +42,12 @@ fn refusal_line(alloc: Global, status: Status) -> Result<String, Memory>
             numbered_line(alloc, "bad state version ", u64::from(number))
         }
         Status::AuditRefused { event, rule } => ruled_line(alloc, "audit refused ", event, rule),
-        Status::Ok | Status::WriteFault | Status::OutOfMemory => Ok(String::new(alloc)),
+        Status::BadObservation { line, rule } => {
+            ruled_line(alloc, "bad observation line ", line, rule)
+        }
+        Status::Ok | Status::Found | Status::WriteFault | Status::OutOfMemory => {
+            Ok(String::new(alloc))
+        }
     }
 }
 

@@ -11,6 +11,7 @@ use crate::top::answer::{Answer, refusal};
 use crate::top::auditing::answer_to_audit;
 use crate::top::command::{Command, Reading, Word};
 use crate::top::losing::{answer_to_losing, answer_to_losing_on};
+use crate::top::observing::answer_to_observing;
 use crate::top::scripts::{answer_to_number, answer_to_script};
 use crate::top::states::{answer_to_file, answer_to_saving};
 use crate::top::status::Status;
@@ -26,12 +27,13 @@ use std::alloc::Global;
 /// state file of the run and a stop after it; for `resume` the input is a state file and a schedule after it, and the output the report
 /// of the run that goes on from there, and for `steps from` its steps; for `lost CLUSTER` what is lost if the cluster goes at the run's
 /// end, with `numbers` after it without the messages' names, and with `from` for the input of `resume`; for `audit`, and for `audit whole`, which judges gaps as well, the
-/// input is what a script declares and a trace after it, and the output how many events the trace tells; for `big NUMBER` it is the
+/// input is what a script declares and a trace after it, and the output how many events the trace tells; for `observe` an observation
+/// stands there, and the output is what is found against it, or that it is safe; for `big NUMBER` it is the
 /// summary of the run that the number generates, and for `steps big NUMBER` its steps. Else, and where it refuses, it is one line.
 ///
 /// It takes the input, and gives the memory of a script back before the run, but for `steps`, whose lines it cites. The first of these
 /// refusals wins: words that are no command; more than 67,108,864 bytes; an item of the state that breaks a rule, or its version; a line
-/// of the script or the schedule that breaks a rule; a line of the trace that does; more than 2,000,000 events and idle events, or more
+/// of the script or the schedule that breaks a rule; a line of the trace or the observation that does; more than 2,000,000 events and idle events, or more
 /// than 1 GiB of frames. `Memory` comes where a growth of memory is refused.
 #[tactic(auto, using(crate::proofs::Answered::answered_free, crate::proofs::Answered::founded_made))]
 pub fn answer(alloc: Global, words: &[Word], input: Blob) -> Result<Answer, Memory>
@@ -88,5 +90,6 @@ fn answer_to_bytes(alloc: Global, reading: Reading<'_>, bytes: Blob) -> Result<A
         Reading::LostOn(cluster) => {
             answer_to_losing_on(alloc, cluster.as_bytes(), bytes.as_slice())
         }
+        Reading::Observe => answer_to_observing(alloc, bytes.as_slice()),
     }
 }

@@ -71,6 +71,8 @@ pub enum Reading<'a> {
     Lost(ClusterWord<'a>, bool),
     /// The same, with the names, of a run that goes on from a state file with the steps after it.
     LostOn(ClusterWord<'a>),
+    /// What was read and logged of clusters that run elsewhere, which stands after a script's declarations, is judged.
+    Observe,
 }
 
 /// What is shown of the run of a script.
@@ -132,6 +134,8 @@ impl<'a> Command<'a> {
             Some(Command::Reads(Reading::Script(Shown::Trace)))
         } else if bytes == b"steps".as_slice() {
             Some(Command::Reads(Reading::Steps))
+        } else if bytes == b"observe".as_slice() {
+            Some(Command::Reads(Reading::Observe))
         } else {
             None
         }

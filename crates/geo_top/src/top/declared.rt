@@ -41,7 +41,8 @@ fn broker_ref_of(clusters: &[ClusterName], name: &[u8]) -> Option<usize>
 #[tactic(auto, using(crate::proofs::Losing::behind_cut, crate::proofs::Losing::behind_ended))]
 pub fn line_behind(bytes: &[u8]) -> u64
     requires { length bytes.now ≤ INPUT_BYTES }
-    ensures { result ≡ length (lines_of bytes.now) + 1 }
+    ensures number { result ≡ length (lines_of bytes.now) + 1 }
+    ensures few { result ≤ INPUT_BYTES + 2 }
 {
     let ended = line_ends(bytes);
     if is_cut(bytes) { ended + 2 } else { ended + 1 }

@@ -28,6 +28,11 @@ pub enum Status {
     /// The first line of a trace that breaks a rule of an audit: the number of the last event that was accepted, 0 before the first
     /// one, and the lowest rule that the line breaks.
     AuditRefused { event: u64, rule: u32 },
+    /// The first line of an observation that breaks a rule, counted from 1 with the lines before it, and the lowest rule that it
+    /// breaks.
+    BadObservation { line: u64, rule: u32 },
+    /// Something is found against an observation, and the whole of it went out.
+    Found,
 }
 
 impl Status {
@@ -38,13 +43,14 @@ impl Status {
         match self {
             Status::Ok => 0,
             Status::Usage => 2,
-            Status::BadScript { .. } => 3,
+            Status::BadScript { .. } | Status::BadObservation { .. } => 3,
             Status::ReadFault => 4,
             Status::WriteFault => 5,
             Status::TooLarge(_) => 6,
             Status::OutOfMemory => 8,
             Status::BadState { .. } | Status::StateVersion(_) => 9,
             Status::AuditRefused { .. } => 10,
+            Status::Found => 11,
         }
     }
 }

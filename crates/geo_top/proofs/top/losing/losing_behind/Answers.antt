@@ -8,7 +8,7 @@ pub returns-in-Ok : goal.returns-in-Ok
 returns-in-Ok c =
     let f = state_of c.args.saved in
     told_schedule c.args.cluster.now c.args.lines.now f c.in-Ok.steps (schedule_of f.scenario.setup c.args.lines.now) c.losing_saved-answer.result c.in-Ok.ensures.ok
-    (c.losing_saved-answer.ensures c.args.lines.now c.line_behind.ensures)
+    (c.losing_saved-answer.ensures c.args.lines.now c.line_behind.ensures.number)
 
 pub returns-in-Rule : goal.returns-in-Rule
 returns-in-Rule c =

@@ -1,0 +1,13 @@
+pub mod Firsts
+pub mod Above
+pub mod Counts
+pub mod Each
+pub mod Once
+pub mod Walking
+pub mod Needing
+pub mod Telling
+pub mod Names
+pub mod Dealings
+pub mod Below
+pub mod Cutting
+pub mod Comparing

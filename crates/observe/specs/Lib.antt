@@ -1,0 +1,9 @@
+pub mod Kept
+pub mod Topics
+pub mod Reads
+pub mod Rules
+pub mod Dealt
+pub mod Needed
+pub mod Markers
+pub mod Telling
+pub mod Walks

@@ -1,0 +1,9 @@
+pub mod Pieces
+pub mod Added
+pub mod Anys
+pub mod Walks
+pub mod Numbers
+pub mod Sizes
+pub mod Counts
+pub mod Accepted
+pub mod Told
