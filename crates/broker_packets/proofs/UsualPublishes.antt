@@ -1,9 +1,9 @@
 -- A SEND of the usual form is published as the machine's SEND is.
-use Rattle.std.proofs.Common.{◌≡◌, ℕ, ◌≤◌, ◌==◌, true, List, [], refl, sym, ◌∙◌, ap, subst}
-use Rattle.std.specs.Prelude.{◌&&◌, is_none, Option, Some, None}
+use Rattle.std.proofs.Common.{◌≡◌, ℕ, ◌≤◌, ◌==◌, true, false, List, [], refl, sym, ◌∙◌, ap, subst}
+use Rattle.std.specs.Prelude.{◌&&◌, is_none, nat_le, Option, Some, None}
 use Rattle.std.specs.Option.{option_copied, option_map}
 use Rattle.std.specs.Str.{bytes_eq}
-use Rattle.std.proofs.lemmas.Bool.{eqb-true, le-leb}
+use Rattle.std.proofs.lemmas.Bool.{eqb-true, false≢true, le-leb}
 use Rattle.geo_base.specs.declared.frame.Frame.TheVariants as frame
 use Rattle.geo_base.specs.declared.marker.ClusterRef.{ClusterRef}
 use Rattle.geo_base.specs.declared.packet.Peer.TheVariants as peer
@@ -29,7 +29,7 @@ use Rattle.broker_state.specs.Plan.{PlanView}
 use Rattle.broker_packets.specs.Serving.{is_in, open_at, session_or}
 use Rattle.broker_packets.specs.UsualPublishes.{Publishes}
 use Rattle.broker_packets.proofs.Sessions.{served_in}
-use Rattle.geo_base.proofs.Bools.{and_first, and_second}
+use Rattle.geo_base.proofs.Bools.{and_first, and_of_both, and_second}
 
 none_named : {X Y : Type 0} (o : Option X) (f : Option X → Option Y) (g : Y → ClusterRef) → is_none o ≡ true → f None ≡ None → is_none (option_map g (f o)) ≡ true
 none_named {Y = Y} None f g h none = ap (λ (q : Option Y). is_none (option_map g q)) none
@@ -47,6 +47,23 @@ sound h m n agree small =
     (and_first (bytes_eq n m.message.meta.producer.now) (m.seq == m.message.meta.seq) both) (and_second (bytes_eq n m.message.meta.producer.now) (m.seq == m.message.meta.seq) both)
     (none_named m.message.meta.replicated_from option_copied (place_of h.clusters) (and_second (bytes_eq n m.message.meta.producer.now && (m.seq == m.message.meta.seq)) (is_none m.message.meta.replicated_from) agree) refl)
     (small h.clusters 0)
+
+-- and the other way round
+some_named : {X Y : Type 0} (o : Option X) (f : Option X → Option Y) (g : Y → ClusterRef) → ((x : X) → is_none (f (Some x)) ≡ false) → is_none (option_map g (f o)) ≡ true → is_none o ≡ true
+some_named None f g some h = refl
+some_named {Y = Y} (Some x) f g some h = absurd (false≢true (sym (some x) ∙ map_none (f (Some x)) h))
+  where
+    map_none : (q : Option Y) → is_none (option_map g q) ≡ true → is_none q ≡ true
+    map_none None h = refl
+    map_none (Some y) h = absurd cc
+
+pub agreed : (h : Site) (m : Came) (n : List ℕ) → is_sound h n m.seq (source_viewed h.clusters m.message) (entry_viewed 0 m.message) ≡ true
+    → (bytes_eq n m.message.meta.producer.now && (m.seq == m.message.meta.seq) && is_none m.message.meta.replicated_from) ≡ true
+agreed h m n is =
+    let a = bytes_eq n m.message.meta.producer.now in let b = m.seq == m.message.meta.seq in let c = is_none (source_viewed h.clusters m.message) in
+    let fits = nat_le (entry_size h.clusters (entry_viewed 0 m.message)) most_entry_size in
+    let three = and_first (a && b && c) true (and_first (a && b && c && true) fits is) in
+    and_of_both (a && b) (is_none m.message.meta.replicated_from) (and_first (a && b) c three) (some_named m.message.meta.replicated_from option_copied (place_of h.clusters) (λ x. refl) (and_second (a && b) c three))
 
 -- ---- the plan
 

@@ -8,7 +8,7 @@ ghost use Rattle.broker_state.specs.Plan.{IsEmptyPlan};
 ghost use Rattle.broker_state.specs.Room.{HasRoom};
 ghost use Rattle.broker_state.specs.State.{SameState};
 ghost use Rattle.broker_plans.specs.Prepared.{IsPrepared};
-ghost use Rattle.broker_plans.specs.Usual.{send_viewed};
+ghost use Rattle.broker_plans.specs.Usual.{is_small, send_viewed};
 ghost use Rattle.frame_values.specs.Usual.{entry_viewed, source_viewed};
 ghost use Rattle.broker_packets.specs.Producing.{published};
 ghost use Rattle.broker_packets.specs.Serving.{IsOpen, open_at};
@@ -23,10 +23,11 @@ use geo_base::{Memory, Peer, Text};
 use std::alloc::Global;
 
 /// Whether a SEND of the usual form is published as it stands: it is of a producer of the client's open session, and its message
-/// is sound and small. `false` says nothing of it.
+/// is sound and small. One that is published in the end, though its message is not small by `broker_plans::is_small`, is `false` too.
 pub fn publishes(state: &BrokerState, client: u32, came: Came<'_>) -> bool
     requires { client < length state.now.broker.sessions }
-    ensures { result ≡ true → Publishes state.now.site state.now.broker client came.entry }
+    ensures only { result ≡ true → Publishes state.now.site state.now.broker client came.entry }
+    ensures all { Publishes state.now.site state.now.broker client came.entry → is_small came.entry.message ≡ true → result ≡ true }
 {
     if is_open(state, client, came.session) {
         is_published(state, client, came)
@@ -38,7 +39,8 @@ pub fn publishes(state: &BrokerState, client: u32, came: Came<'_>) -> bool
 /// Whether it is of a producer of the open session, and sound.
 fn is_published(state: &BrokerState, client: u32, came: Came<'_>) -> bool
     requires { IsOpen state.now.broker client }
-    ensures { result ≡ true → published state.now.site (name_with came.entry.id (open_at state.now.broker client).producers) came.entry.seq (source_viewed state.now.site.clusters came.entry.message) (entry_viewed 0 came.entry.message) ≡ true }
+    ensures only { result ≡ true → published state.now.site (name_with came.entry.id (open_at state.now.broker client).producers) came.entry.seq (source_viewed state.now.site.clusters came.entry.message) (entry_viewed 0 came.entry.message) ≡ true }
+    ensures all { published state.now.site (name_with came.entry.id (open_at state.now.broker client).producers) came.entry.seq (source_viewed state.now.site.clusters came.entry.message) (entry_viewed 0 came.entry.message) ≡ true → is_small came.entry.message ≡ true → result ≡ true }
 {
     let name = name_with(came.id, open_producers(state, client));
     is_sound(state, name, came)
@@ -46,7 +48,8 @@ fn is_published(state: &BrokerState, client: u32, came: Came<'_>) -> bool
 
 /// Whether the producer of a name, if there is one, may publish it.
 fn is_sound(state: &BrokerState, name: Option<&Text>, came: Came<'_>) -> bool
-    ensures { result ≡ true → published state.now.site (option_copied name.entry) came.entry.seq (source_viewed state.now.site.clusters came.entry.message) (entry_viewed 0 came.entry.message) ≡ true }
+    ensures only { result ≡ true → published state.now.site (option_copied name.entry) came.entry.seq (source_viewed state.now.site.clusters came.entry.message) (entry_viewed 0 came.entry.message) ≡ true }
+    ensures all { published state.now.site (option_copied name.entry) came.entry.seq (source_viewed state.now.site.clusters came.entry.message) (entry_viewed 0 came.entry.message) ≡ true → is_small came.entry.message ≡ true → result ≡ true }
 {
     match name {
         None => false,
@@ -56,7 +59,8 @@ fn is_sound(state: &BrokerState, name: Option<&Text>, came: Came<'_>) -> bool
 
 /// Whether the producer of a name may publish it: metadata and command agree, no cluster stored it before, and it is small.
 fn is_sound_for(state: &BrokerState, name: &Text, came: Came<'_>) -> bool
-    ensures { result ≡ true → is_sound state.now.site name.now came.entry.seq (source_viewed state.now.site.clusters came.entry.message) (entry_viewed 0 came.entry.message) ≡ true }
+    ensures only { result ≡ true → is_sound state.now.site name.now came.entry.seq (source_viewed state.now.site.clusters came.entry.message) (entry_viewed 0 came.entry.message) ≡ true }
+    ensures all { is_sound state.now.site name.now came.entry.seq (source_viewed state.now.site.clusters came.entry.message) (entry_viewed 0 came.entry.message) ≡ true → is_small came.entry.message ≡ true → result ≡ true }
 {
     if agrees(name, came) {
         is_small(came.message)

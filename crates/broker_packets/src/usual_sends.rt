@@ -8,7 +8,7 @@ ghost use Rattle.broker_state.specs.Plan.{IsEmptyPlan};
 ghost use Rattle.broker_state.specs.Room.{HasRoom};
 ghost use Rattle.broker_state.specs.State.{SameState};
 ghost use Rattle.broker_plans.specs.Prepared.{IsPrepared};
-ghost use Rattle.broker_plans.specs.Usual.{send_viewed};
+ghost use Rattle.broker_plans.specs.Usual.{is_small, send_viewed};
 ghost use Rattle.frame_values.specs.Values.{place_of};
 ghost use Rattle.broker_packets.specs.UsualSends.{IsBrought, Receives};
 
@@ -22,10 +22,12 @@ use replicator::Taken;
 use std::alloc::Global;
 
 /// Whether a SEND of the usual form is acted on as it stands: it is of the session that is open on the link from a cluster, and
-/// its entry is of that cluster and small. `false` says nothing of it. A SEND opens no session.
+/// its entry is of that cluster and small. One that is acted on in the end, though its message is not small by
+/// `broker_plans::is_small`, is `false` too. A SEND opens no session.
 pub fn receives(state: &BrokerState, source: u32, came: Came<'_>) -> bool
     requires { source < length state.now.broker.receivers }
-    ensures { result ≡ true → Receives state.now.site state.now.broker source came.entry }
+    ensures only { result ≡ true → Receives state.now.site state.now.broker source came.entry }
+    ensures all { Receives state.now.site state.now.broker source came.entry → is_small came.entry.message ≡ true → result ≡ true }
 {
     match state.receiver(source).next_packet(came.session, false) {
         Taken::Process => is_brought(state, source, came.message),
@@ -35,7 +37,8 @@ pub fn receives(state: &BrokerState, source: u32, came: Came<'_>) -> bool
 
 /// Whether a message says that a cluster stored it first, and is small.
 fn is_brought(state: &BrokerState, source: u32, message: MessageView<'_>) -> bool
-    ensures { result ≡ true → IsBrought state.now.site source message.entry }
+    ensures only { result ≡ true → IsBrought state.now.site source message.entry }
+    ensures all { IsBrought state.now.site source message.entry → is_small message.entry ≡ true → result ≡ true }
 {
     if is_from(
         state.site().clusters(),

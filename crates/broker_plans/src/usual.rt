@@ -1,5 +1,5 @@
 //! SENDs of the usual form, whose parts are looked at in their place, so that an entry is made once, where it is stored.
-ghost use Rattle.std.specs.Prelude.{◌≡◌, ℕ, ◌≤◌, ◌++◌, ◌∷◌, true, [], Some, IfOk, List, OnOk};
+ghost use Rattle.std.specs.Prelude.{◌≡◌, ℕ, ◌≤◌, ◌++◌, ◌∷◌, true, [], Some, IfOk, List, OnErr, OnOk};
 ghost use Rattle.std.specs.Option.{option_copied};
 ghost use Rattle.topic_store.specs.Table.{stream_of};
 ghost use Rattle.geo_base.specs.Plan.{plan_of};
@@ -11,7 +11,7 @@ ghost use Rattle.broker_state.specs.State.{SameState};
 ghost use Rattle.broker_plans.specs.Prepared.{AlsoSends, IsPrepared};
 ghost use Rattle.broker_plans.specs.Storable.{IsStorable};
 ghost use Rattle.broker_plans.specs.Updates.{appending};
-ghost use Rattle.broker_plans.specs.Usual.{receipt_out, text_length};
+ghost use Rattle.broker_plans.specs.Usual.{is_small, receipt_out, text_length};
 ghost use Rattle.frame_values.specs.Usual.{entry_viewed};
 
 use crate::receiving::NO_POSITION;
@@ -48,10 +48,12 @@ pub struct Answered {
     pub seq: u64,
 }
 
-/// Whether a message is certain to be small enough to be stored; `false` says nothing of it.
+/// Whether a message is certain to be small enough to be stored: its producer's name and its key are shorter than 128 bytes each, and
+/// its payload leaves 512 bytes of a stored entry for them and the numbers. `false` says nothing more of it.
 #[tactic(auto, using(crate::proofs::UsualMessages::small_size))]
 pub fn is_small(message: MessageView<'_>) -> bool
-    ensures { result ≡ true → ((names : List (List ℕ)) (x : ℕ) → entry_size names (entry_viewed x message.entry) ≤ most_entry_size) }
+    ensures is { result ≡ is_small message.entry }
+    ensures small { result ≡ true → ((names : List (List ℕ)) (x : ℕ) → entry_size names (entry_viewed x message.entry) ≤ most_entry_size) }
 {
     if message.meta.producer.len() >= SHORT || text_len(message.meta.key) >= SHORT {
         return false;
@@ -73,7 +75,7 @@ fn text_len(text: Option<&str>) -> usize
 }
 
 /// An event that stores a message which came, of a cluster, unless it is a duplicate. The answer is the position that its receipt
-/// names.
+/// names. Where memory is wanting, the plan has no change and no packet.
 pub fn storing_message(
     alloc: Global,
     state: &mut BrokerState,
@@ -87,6 +89,7 @@ pub fn storing_message(
     ensures position { IfOk result (λ p. Some p ≡ receipt_position state.old.site.per_ledger state.old.broker (entry_viewed origin message.entry)) }
     ensures room { OnOk result (HasRoom state.new.room plan.new) }
     ensures kept { SameState state.old state.new }
+    ensures err { OnErr result ((plan.new.changes ≡ []) × (plan.new.sent ≡ [])) }
 {
     let stream = stream_of(alloc, origin, message)?;
     plan.begin(0);
@@ -118,14 +121,15 @@ fn append_message(
     plan: &mut Plan,
 ) -> Result<(), Memory>
     requires { stream ≡ stream_of (entry_viewed origin message).ident }
-    ensures { OnOk result (plan.new ≡ record plan.old { writes = plan.old.writes ++ appending (entry_viewed origin message.entry) ∷ [] }) }
+    ensures ok { OnOk result (plan.new ≡ record plan.old { writes = plan.old.writes ++ appending (entry_viewed origin message.entry) ∷ [] }) }
+    ensures err { OnErr result (plan.new ≡ plan.old) }
 {
     let entry = entry_of_message(alloc, origin, message)?;
     plan.write(StateWrite::Append { entry, stream })?;
     Ok(())
 }
 
-/// An event that sends, after all that it does, the receipt of a SEND.
+/// An event that sends, after all that it does, the receipt of a SEND. Where memory is wanting, the plan is as it was.
 #[tactic(auto, using(frame_values::proofs::UsualValues::receipt_written))]
 pub fn also_receipt(
     alloc: Global,
@@ -134,7 +138,8 @@ pub fn also_receipt(
     answered: Answered,
     position: Position,
 ) -> Result<(), Memory>
-    ensures { OnOk result (AlsoSends state.now.site.clusters (receipt_out answered position) plan.old plan.new) }
+    ensures ok { OnOk result (AlsoSends state.now.site.clusters (receipt_out answered position) plan.old plan.new) }
+    ensures err { OnErr result (plan.new ≡ plan.old) }
 {
     let Answered {
         to,

@@ -11,7 +11,7 @@ storing_message-requires-clause-storable c =
 pub returns-clause-prepared : goal.returns-clause-prepared
 returns-clause-prepared c stamp =
     published_more c.args.state.now.site c.storing_message.new.state.site c.args.state.now.broker c.args.client stamp c.own-own.result c.args.came c.in_ok-position.position c.storing_message.new.plan c.also_receipt.new.plan
-    c.in_ok-position.ensures.kept.site (c.own-own.ensures.own ∙ ap (λ (h : Site). h.own) c.site.ensures.value) c.requires.publishes c.in_ok-position.ensures.prepared c.in_ok-position.ensures.position c.in_ok-also_receipt.ensures
+    c.in_ok-position.ensures.kept.site (c.own-own.ensures.own ∙ ap (λ (h : Site). h.own) c.site.ensures.value) c.requires.publishes c.in_ok-position.ensures.prepared c.in_ok-position.ensures.position c.in_ok-also_receipt.ensures.ok
 
 pub returns-clause-room : goal.returns-clause-room
-returns-clause-room c = room_more _ _ _ _ _ c.in_ok-position.ensures.room c.in_ok-also_receipt.ensures
+returns-clause-room c = room_more _ _ _ _ _ c.in_ok-position.ensures.room c.in_ok-also_receipt.ensures.ok

@@ -9,7 +9,7 @@ storing_message-requires-clause-storable c = message_storable c.args.state.now.s
 pub returns-clause-prepared : goal.returns-clause-prepared
 returns-clause-prepared c stamp =
     received_more c.args.state.now.site c.storing_message.new.state.site c.args.state.now.broker c.args.source stamp c.args.came c.in_ok-position.position c.storing_message.new.plan c.also_receipt.new.plan
-    c.in_ok-position.ensures.kept.site c.requires.receives c.in_ok-position.ensures.prepared c.in_ok-position.ensures.position c.in_ok-also_receipt.ensures
+    c.in_ok-position.ensures.kept.site c.requires.receives c.in_ok-position.ensures.prepared c.in_ok-position.ensures.position c.in_ok-also_receipt.ensures.ok
 
 pub returns-clause-room : goal.returns-clause-room
-returns-clause-room c = room_more _ _ _ _ _ c.in_ok-position.ensures.room c.in_ok-also_receipt.ensures
+returns-clause-room c = room_more _ _ _ _ _ c.in_ok-position.ensures.room c.in_ok-also_receipt.ensures.ok

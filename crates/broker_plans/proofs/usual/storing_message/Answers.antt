@@ -20,7 +20,7 @@ returns-clause-prepared c =
     let e = entry_viewed c.args.origin c.args.message in
     let told = stream_tells b.entries e.ident c.in_ok-stream.stream c.accepts.result c.in_ok-stream.ensures c.accepts.ensures in
     let new : accepts b.entries e.ident ≡ true = cc in
-    new_stored c.args.state.now.site b e c.append_message.new.plan new c.requires.storable (stores_message e c.begin.new.self c.append_message.new.plan c.begin.ensures c.in_ok-append_message.ensures)
+    new_stored c.args.state.now.site b e c.append_message.new.plan new c.requires.storable (stores_message e c.begin.new.self c.append_message.new.plan c.begin.ensures c.in_ok-append_message.ensures.ok)
 
 pub returns-then-not-accepts-clause-position : goal.returns-then-not-accepts-clause-position
 returns-then-not-accepts-clause-position c =
@@ -48,4 +48,4 @@ pub returns-clause-room : goal.returns-clause-room
 returns-clause-room c =
     let e = entry_viewed c.args.origin c.args.message in
     let made = c.in_ok-reserve_entries.ensures in
-    new_room c.reserve_entries.new.self.room e c.append_message.new.plan made.entries made.streams (stores_message e c.begin.new.self c.append_message.new.plan c.begin.ensures c.in_ok-append_message.ensures)
+    new_room c.reserve_entries.new.self.room e c.append_message.new.plan made.entries made.streams (stores_message e c.begin.new.self c.append_message.new.plan c.begin.ensures c.in_ok-append_message.ensures.ok)
