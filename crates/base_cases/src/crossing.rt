@@ -45,7 +45,8 @@ fn cross(alloc: Global, links: &mut Links, from: Node, to: Peer) -> Result<u64, 
 
 /// Whether the next packet of a link is the first of two.
 fn takes_first(links: &mut Links, link: LinkName) -> bool {
-    match links.take(Some(link)) {
+    let port = links.port(Some(link));
+    match links.take(port) {
         Some(packet) => {
             let is_first = packet.frame.as_slice() == [1u8, 1].as_slice();
             drop(packet);
@@ -65,9 +66,10 @@ fn comes_first(
 ) -> Result<bool, Memory> {
     let bytes = cross(alloc, links, from, to)?;
     let is_first = takes_first(links, link);
-    let stamp = links.stamp(Some(link));
+    let port = links.port(Some(link));
+    let stamp = links.stamp(port);
     links.discard_all();
-    Ok(bytes == 4 && is_first && stamp == 9 && links.next(Some(link)).is_none())
+    Ok(bytes == 4 && is_first && stamp == 9 && links.next(port).is_none())
 }
 
 /// The broker of topic 1 at cluster 0.

@@ -1,11 +1,11 @@
 -- Lists pair by pair, and small facts of lists and numbers.
-use Rattle.std.proofs.Common.{◌≡◌, ℕ, zero, suc, ◌+◌, ◌≤◌, ◌<◌, ◌*◌, ◌^◌, List, [], ◌∷◌, ◌++◌, length, refl, ap, arith}
-use Rattle.std.specs.Prelude.{drop, slice_get, slice_set, slice_index_or, map, replicate}
+use Rattle.std.proofs.Common.{◌≡◌, ℕ, zero, suc, ◌+◌, ◌≤◌, ◌<◌, ◌^◌, List, [], ◌∷◌, ◌++◌, length, refl, ap, arith}
+use Rattle.std.specs.Prelude.{None, drop, slice_get, slice_set, slice_index_or, map, replicate}
 use Rattle.std.proofs.lemmas.List.{at_drop_more, drop_all, set_past}
-use Rattle.std.proofs.Math.Nat.{mul-le-mul_left}
+use Rattle.geo_base.proofs.Lists.{index_or_past}
 use Rattle.geo_base.specs.declared.packet.WireOut.{WireOut}
 use Rattle.links.specs.Each.{Each, none, more, Both, neither, both}
-use Rattle.links.specs.Queues.{bytes_of}
+use Rattle.links.specs.Queues.{Queue, bytes_of}
 
 pub each_get : {A B : Type 0} (R : A → B → Type 0) (xs : List A) (ys : List B) (i : ℕ) → Each R xs ys → Both R (slice_get xs i) (slice_get ys i)
 each_get R _ _ i none = neither
@@ -38,6 +38,10 @@ pub each_map : {A B : Type 0} (R : A → B → Type 0) (f : A → A) (g : B → 
 each_map R f g _ _ k none = none
 each_map R f g _ _ k (more {x = x} {y = y} {xs = xs} {ys = ys} h t) = more (k x y h) (each_map R f g xs ys k t)
 
+pub each_length : {A B : Type 0} (R : A → B → Type 0) (xs : List A) (ys : List B) → Each R xs ys → length xs ≡ length ys
+each_length R _ _ none = refl
+each_length R _ _ (more {xs = xs} {ys = ys} h t) = ap suc (each_length R xs ys t)
+
 pub first_left : {A : Type 0} (n : ℕ) (xs : List A) → slice_get (drop n xs) 0 ≡ slice_get xs n
 first_left zero xs = refl
 first_left (suc n) [] = refl
@@ -46,8 +50,9 @@ first_left (suc n) (x ∷ xs) = first_left n xs
 pub set_nowhere : {A : Type 0} (xs : List A) (i : ℕ) (x : A) → length xs ≤ i → slice_set xs i x ≡ xs
 set_nowhere xs i x h = set_past xs i x h
 
-pub node_fits : (t n : ℕ) → t < 2 ^ 32 → n ≤ 8 → t * n ≤ t * 8
-node_fits t n h k = mul-le-mul_left t k
+-- past the last link there is nothing to take
+pub next_nowhere : (qs : List Queue) (i : ℕ) → length qs ≤ i → slice_get (slice_index_or qs i []) 0 ≡ None
+next_nowhere qs i h = ap (λ (q : Queue). slice_get q 0) (index_or_past qs i [] h)
 
 -- ---- sums
 

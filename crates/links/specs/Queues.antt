@@ -1,8 +1,9 @@
 -- Links as they are kept: the packets that are not taken yet, in the order in which they were sent.
-use Rattle.std.specs.Prelude.{ℕ, ◌+◌, ◌-◌, ◌*◌, List, [], ◌∷◌, ◌++◌, length, map, take, drop, replicate, Option, Some, None, slice_get, slice_set, slice_index_or}
+use Rattle.std.specs.Prelude.{◌≡◌, ℕ, ◌+◌, ◌-◌, ◌*◌, ◌&&◌, nat_lt, if◌then◌else◌, List, [], ◌∷◌, ◌++◌, length, map, take, drop, replicate, Option, Some, None, slice_get, slice_set, slice_index_or}
 use Rattle.links.specs.declared.name.LinkName.{LinkName}
 use Rattle.links.specs.declared.name.LinkName.TheVariants as name
 use Rattle.links.specs.declared.name.Node.{Node}
+use Rattle.links.specs.declared.port.Port.{Port}
 use Rattle.geo_base.specs.declared.packet.WireOut.{WireOut}
 use Rattle.wire_ends.specs.declared.packet.WirePacket.{WirePacket}
 use Rattle.links.specs.Names.{sends_on}
@@ -24,57 +25,59 @@ with_last q p = q ++ p ∷ []
 abbrev pub without_last : Queue → Queue
 without_last q = take (length q - 1) q
 
--- ---- tables of links, by two numbers; past the ends of a table there is no link
-
-abbrev pub cell : List (List Queue) → ℕ → ℕ → Queue
-cell m i j = slice_index_or (slice_index_or m i []) j []
-
-abbrev pub with_cell : List (List Queue) → ℕ → ℕ → Queue → List (List Queue)
-with_cell m i j q = slice_set m i (slice_set (slice_index_or m i []) j q)
-
-abbrev pub empty_row : ℕ → List Queue
-empty_row columns = replicate columns []
-
-abbrev pub empty_table : ℕ → ℕ → List (List Queue)
-empty_table rows columns = replicate rows (empty_row columns)
-
 abbrev pub emptied : List Queue → List Queue
 emptied qs = map (λ (q : Queue). []) qs
 
-abbrev pub all_emptied : List (List Queue) → List (List Queue)
-all_emptied m = map emptied m
-
 -- ---- all links
 
--- how many clusters there are, and the tables: of the links between brokers by the number of the sending broker of the forward
--- link and the other cluster, of a client's by client and cluster
+-- The links of a world in one list. They stand in rows, as the machine's tables do, each of a row to or from another cluster: first
+-- the forward links by the broker that sends on them, then those back by the same brokers, then those to a broker and those to a
+-- client, by clients.
 pub record WireLinks : Type 0 where
+  pub brokers : ℕ
   pub clusters : ℕ
-  pub forward : List (List Queue)
-  pub back : List (List Queue)
-  pub to_broker : List (List Queue)
-  pub to_client : List (List Queue)
+  pub clients : ℕ
+  pub queues : List Queue
+
+-- how many rows there are
+abbrev pub row_count : (brokers clients : ℕ) → ℕ
+row_count brokers clients = brokers + (brokers + (clients + clients))
 
 abbrev pub empty_links : (topics clusters clients : ℕ) → WireLinks
 empty_links topics clusters clients = record {
+  brokers = topics * clusters;
   clusters = clusters;
-  forward = empty_table (topics * clusters) clusters;
-  back = empty_table (topics * clusters) clusters;
-  to_broker = empty_table clients clusters;
-  to_client = empty_table clients clusters;
+  clients = clients;
+  queues = replicate (row_count (topics * clusters) clients * clusters) [];
 }
 
+-- the number of the link in a row of so many that stand after others, and of none where there is no such link
+abbrev pub port_in : WireLinks → (before rows row column : ℕ) → ℕ
+port_in ls before rows row column = if nat_lt row rows && nat_lt column ls.clusters then (before + row) * ls.clusters + column else length ls.queues
+
+-- the port of a link: its number among all
+unfoldable pub port_of : WireLinks → LinkName → ℕ
+port_of ls (name.Forward t x y) = port_in ls 0 ls.brokers (t * ls.clusters + x) y
+port_of ls (name.Back t x y) = port_in ls ls.brokers ls.brokers (t * ls.clusters + x) y
+port_of ls (name.ToBroker c x) = port_in ls (ls.brokers + ls.brokers) ls.clients c x
+port_of ls (name.ToClient c x) = port_in ls (ls.brokers + (ls.brokers + ls.clients)) ls.clients c x
+
+-- and of the link that an event takes from; of no link where it takes from none
+abbrev pub port_at : WireLinks → Option LinkName → ℕ
+port_at ls None = length ls.queues
+port_at ls (Some k) = port_of ls k
+
+abbrev pub queue_in : WireLinks → ℕ → Queue
+queue_in ls port = slice_index_or ls.queues port []
+
+abbrev pub with_queue_in : WireLinks → ℕ → Queue → WireLinks
+with_queue_in ls port q = record ls { queues = slice_set ls.queues port q }
+
 abbrev pub queue_at : WireLinks → LinkName → Queue
-queue_at ls (name.Forward t x y) = cell ls.forward (t * ls.clusters + x) y
-queue_at ls (name.Back t x y) = cell ls.back (t * ls.clusters + x) y
-queue_at ls (name.ToBroker c x) = cell ls.to_broker c x
-queue_at ls (name.ToClient c x) = cell ls.to_client c x
+queue_at ls k = queue_in ls (port_of ls k)
 
 abbrev pub with_queue : WireLinks → LinkName → Queue → WireLinks
-with_queue ls (name.Forward t x y) q = record ls { forward = with_cell ls.forward (t * ls.clusters + x) y q }
-with_queue ls (name.Back t x y) q = record ls { back = with_cell ls.back (t * ls.clusters + x) y q }
-with_queue ls (name.ToBroker c x) q = record ls { to_broker = with_cell ls.to_broker c x q }
-with_queue ls (name.ToClient c x) q = record ls { to_client = with_cell ls.to_client c x q }
+with_queue ls k q = with_queue_in ls (port_of ls k) q
 
 -- the packet that is taken next from a link, if there is one
 abbrev pub next_at : WireLinks → LinkName → Option WirePacket
@@ -83,6 +86,17 @@ next_at ls k = next_in (queue_at ls k)
 abbrev pub stamp_of : Option WirePacket → ℕ
 stamp_of None = 0
 stamp_of (Some p) = p.stamp
+
+-- a port is where the link stands that an event takes from
+abbrev pub IsFound : WireLinks → Port → Type 0
+IsFound ls port = port.number ≡ port_at ls port.link
+
+-- the packet that is taken next at a port, if there is one, and the links without it
+abbrev pub packet_in : WireLinks → Port → Option WirePacket
+packet_in ls port = next_in (queue_in ls port.number)
+
+abbrev pub taken_in : Port → WireLinks → WireLinks
+taken_in port ls = with_queue_in ls port.number (after_next (queue_in ls port.number))
 
 -- without the packet that is taken next from a link
 abbrev pub taken_at : LinkName → WireLinks → WireLinks
@@ -98,13 +112,7 @@ taken_from None ls = ls
 taken_from (Some k) ls = taken_at k ls
 
 abbrev pub all_discarded : WireLinks → WireLinks
-all_discarded ls = record {
-  clusters = ls.clusters;
-  forward = all_emptied ls.forward;
-  back = all_emptied ls.back;
-  to_broker = all_emptied ls.to_broker;
-  to_client = all_emptied ls.to_client;
-}
+all_discarded ls = record ls { queues = emptied ls.queues }
 
 -- ---- sending
 
@@ -113,10 +121,6 @@ stamped stamp o = record { session = o.session; stamp = stamp; frame = o.frame }
 
 abbrev pub sent_on : LinkName → WirePacket → WireLinks → WireLinks
 sent_on k p ls = with_queue ls k (with_last (queue_at ls k) p)
-
--- without the packet that was sent last on a link
-abbrev pub unsent_on : LinkName → WireLinks → WireLinks
-unsent_on k ls = with_queue ls k (without_last (queue_at ls k))
 
 -- all that a node sends in an event of this stamp, in order
 abbrev pub delivered : Node → ℕ → List WireOut → WireLinks → WireLinks

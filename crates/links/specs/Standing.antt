@@ -1,6 +1,6 @@
 -- What the kept links stand for of the machine's: of each link the packets that are not taken yet, one by one, as bytes that are
 -- the canonical text of the frame. names are those of the clusters, by their numbers.
-use Rattle.std.specs.Prelude.{◌≡◌, ℕ, ◌≤◌, true, List, length, drop}
+use Rattle.std.specs.Prelude.{◌≡◌, ℕ, ◌≤◌, true, List, [], ◌∷◌, ◌++◌, length, drop, ⊤}
 use Rattle.geo_base.specs.declared.packet.Out.{Out}
 use Rattle.geo_base.specs.declared.packet.Packet.{Packet}
 use Rattle.geo_base.specs.Happening.{all_discarded}
@@ -31,18 +31,35 @@ pub record LinkStands (names : List (List ℕ)) (q : Queue) (l : Link) : Type 0 
   pub taken : l.taken ≤ length l.sent
   pub untaken : Each (PacketStands names) q (drop l.taken l.sent)
 
-abbrev pub RowStands : List (List ℕ) → List Queue → List Link → Type 0
-RowStands names = Each (LinkStands names)
+-- the machine's tables one after another, as their rows, and all links of them one after another
+abbrev pub rows_of : Links → List (List Link)
+rows_of vs = vs.forward ++ (vs.back ++ (vs.to_broker ++ vs.to_client))
 
-abbrev pub TableStands : List (List ℕ) → List (List Queue) → List (List Link) → Type 0
-TableStands names = Each (RowStands names)
+unfoldable pub joined : {A : Type 0} → List (List A) → List A
+joined [] = []
+joined (row ∷ rows) = row ++ joined rows
+
+-- all rows are as long as this
+unfoldable pub AreRows : {A : Type 0} → ℕ → List (List A) → Type 0
+AreRows n [] = ⊤
+AreRows n (row ∷ rows) = (length row ≡ n) × AreRows n rows
+
+-- a table of so many rows and columns
+pub record IsTable {A : Type 0} (rows columns : ℕ) (m : List (List A)) : Type 0 where
+  pub count : length m ≡ rows
+  pub each : AreRows columns m
+
+-- the machine's tables have a row for each of so many brokers and clients
+pub record AreTables (ls : WireLinks) (vs : Links) : Type 0 where
+  pub forward : IsTable ls.brokers ls.clusters vs.forward
+  pub back : IsTable ls.brokers ls.clusters vs.back
+  pub to_broker : IsTable ls.clients ls.clusters vs.to_broker
+  pub to_client : IsTable ls.clients ls.clusters vs.to_client
 
 pub record LinksStand (names : List (List ℕ)) (ls : WireLinks) (vs : Links) : Type 0 where
   pub clusters : ls.clusters ≡ length names
-  pub forward : TableStands names ls.forward vs.forward
-  pub back : TableStands names ls.back vs.back
-  pub to_broker : TableStands names ls.to_broker vs.to_broker
-  pub to_client : TableStands names ls.to_client vs.to_client
+  pub tables : AreTables ls vs
+  pub links : Each (LinkStands names) ls.queues (joined (rows_of vs))
 
 -- the machine's links after a stop of everything
 abbrev pub stopped_links : Links → Links

@@ -2,8 +2,10 @@
 //!
 //! A packet is the bytes of its frame, with the session that it was sent in and the stamp of the event that sent it. The
 //! machine's link is all that was ever sent on it and a count of what was taken; a link here keeps what is not taken yet and
-//! nothing else, so that memory falls as packets are taken. Each packet crosses it in pieces, all in one event. What the one stands for of the other is `LinksStand`: packet by
-//! packet, bytes that are the canonical text of the machine's frame. The laws say that each operation keeps it.
+//! nothing else, so that memory falls as packets are taken. Each packet crosses it in pieces, all in one event. All links stand in
+//! one list, and an event looks the one that it takes from up once, which is its port. What the one stands for of the other is
+//! `LinksStand`: packet by packet, bytes that are the canonical text of the machine's frame. The laws say that each operation keeps
+//! it.
 #![tactic(auto)]
 
 mod counting;
@@ -11,7 +13,7 @@ mod laws;
 mod link;
 mod links;
 mod name;
-mod table;
+mod port;
 
 pub use counting::frame_bytes;
 pub use laws::{
@@ -19,4 +21,5 @@ pub use laws::{
 };
 pub use links::Links;
 pub use name::{LinkName, Node};
+pub use port::Port;
 pub use wire_ends::WirePacket;

@@ -2,12 +2,13 @@
 //!
 //! What is sent in one event goes out whole or not at all: where memory ends in the middle of it, what was sent is taken back,
 //! the last packet first.
-ghost use Rattle.std.specs.Prelude.{◌≡◌, ◌≤◌, ◌<◌, ◌^◌, ◌+◌, ◌*◌, [], IfOk, OnOk, OnErr};
+ghost use Rattle.std.specs.Prelude.{◌≡◌, ◌≤◌, ◌<◌, ◌^◌, ◌*◌, [], IfOk, IfSome, OnOk, OnErr, length, replicate};
 ghost use Rattle.std.specs.Option.{option_copied};
-ghost use Rattle.links.specs.Queues.{all_discarded, delivered, empty_links, next_at, packet_on, sent_on, stamp_of, stamped, taken_at, taken_from, unsent_on};
+ghost use Rattle.links.specs.Queues.{all_discarded, delivered, empty_links, emptied, packet_in, queue_in, row_count, stamp_of, stamped, taken_in, with_last, with_queue_in, without_last};
 
-use crate::name::{LinkName, Node, link_to};
-use crate::table::LinkTable;
+use crate::link::Link;
+use crate::name::{Node, link_to};
+use crate::port::Port;
 use geo_base::limits::CLUSTERS;
 use geo_base::{Memory, Stamp, WireOut};
 use std::alloc::Global;
@@ -15,27 +16,26 @@ use std::collections::VecDeque;
 use std::marker::Model;
 use wire_ends::WirePacket;
 
-/// All links between so many clusters. Those between brokers stand by the number of the broker that sends on the forward one
-/// and the other cluster, those of a client by client and cluster. Where a name is of no link, nothing is sent and nothing comes.
+/// All links between so many brokers, and to and from so many clients, in one list by their ports. Where a name is of no link,
+/// nothing is sent and nothing comes.
 #[derive(Drop)]
 pub struct Links {
-    clusters: usize,
-    forward: LinkTable,
-    back: LinkTable,
-    to_broker: LinkTable,
-    to_client: LinkTable,
+    pub(crate) brokers: usize,
+    pub(crate) clusters: usize,
+    pub(crate) clients: usize,
+    links: Vec<Link>,
 }
 
 impl Model for Links {
-    ghost use Rattle.std.specs.Prelude.{◌≤◌};
+    ghost use Rattle.std.specs.Prelude.{◌≡◌, ◌≤◌, ◌<◌, ◌^◌, ◌*◌, length};
     ghost use Rattle.geo_base.specs.declared.limits.TheConstants.{CLUSTERS};
-    ghost use Rattle.links.specs.Queues.{WireLinks};
+    ghost use Rattle.links.specs.Queues.{WireLinks, row_count};
 
     ghost Value = { WireLinks };
 
-    ghost view = { λ l. record { clusters = l.clusters; forward = l.forward; back = l.back; to_broker = l.to_broker; to_client = l.to_client } };
+    ghost view = { λ l. record { brokers = l.brokers; clusters = l.clusters; clients = l.clients; queues = l.links.items } };
 
-    ghost invariant = { λ l. l.clusters ≤ CLUSTERS };
+    ghost invariant = { λ l. (l.clusters ≤ CLUSTERS) × (row_count l.brokers l.clients < 2 ^ 64) × (length l.links.items ≡ row_count l.brokers l.clients * l.clusters) };
 }
 
 impl Links {
@@ -51,104 +51,57 @@ impl Links {
         ensures { IfOk result (λ l. l ≡ empty_links topics clusters clients) }
     {
         let brokers = topics * clusters;
+        let Some(count) = link_count(brokers, clusters, clients) else {
+            return Err(Memory);
+        };
+        let links = new_links(alloc, count)?;
         Ok(Links {
+            brokers,
             clusters,
-            forward: LinkTable::new(alloc, brokers, clusters)?,
-            back: LinkTable::new(alloc, brokers, clusters)?,
-            to_broker: LinkTable::new(alloc, clients, clusters)?,
-            to_client: LinkTable::new(alloc, clients, clusters)?,
+            clients,
+            links,
         })
     }
 
-    /// The number of the broker of a topic at a cluster, among all.
-    #[tactic(auto, using(crate::proofs::Pairs::node_fits))]
-    fn node(&self, topic: u32, cluster: u32) -> usize
-        ensures { result ≡ topic * self.now.clusters + cluster }
+    /// How many links there are.
+    pub(crate) fn count(&self) -> usize
+        ensures { result ≡ length self.now.queues }
     {
-        topic as usize * self.clusters + cluster as usize
+        self.links.len()
     }
 
-    /// The packet that an event takes from a link, if it takes from one that has a packet.
-    pub fn next(&self, takes: Option<LinkName>) -> Option<&WirePacket>
-        ensures { option_copied result ≡ packet_on self.now takes }
+    /// The packet that is taken next at a port, if there is one.
+    #[tactic(auto, using(crate::proofs::Pairs::next_nowhere))]
+    pub fn next(&self, port: Port) -> Option<&WirePacket>
+        ensures { option_copied result ≡ packet_in self.now port }
     {
-        match takes {
-            Some(link) => self.next_on(link),
-            None => None,
-        }
-    }
-
-    fn next_on(&self, link: LinkName) -> Option<&WirePacket>
-        ensures { option_copied result ≡ next_at self.now link }
-    {
-        match link {
-            LinkName::Forward {
-                topic,
-                source,
-                target,
-            } => self.forward.next(self.node(topic, source), target as usize),
-            LinkName::Back {
-                topic,
-                source,
-                target,
-            } => self.back.next(self.node(topic, source), target as usize),
-            LinkName::ToBroker { client, cluster } => {
-                self.to_broker.next(client as usize, cluster as usize)
-            }
-            LinkName::ToClient { client, cluster } => {
-                self.to_client.next(client as usize, cluster as usize)
-            }
+        if port.number < self.links.len() {
+            self.links[port.number].next()
+        } else {
+            None
         }
     }
 
     /// The stamp of that packet; 0 where there is none.
-    pub fn stamp(&self, takes: Option<LinkName>) -> u64
-        ensures { result ≡ stamp_of (packet_on self.now takes) }
+    pub fn stamp(&self, port: Port) -> u64
+        ensures { result ≡ stamp_of (packet_in self.now port) }
     {
-        match self.next(takes) {
+        match self.next(port) {
             Some(packet) => packet.stamp.number(),
             None => 0,
         }
     }
 
     /// Takes that packet.
-    pub fn take(&mut self, takes: Option<LinkName>) -> Option<WirePacket>
-        ensures taken { result ≡ packet_on self.old takes }
-        ensures rest { self.new ≡ taken_from takes self.old }
+    #[tactic(auto, using(crate::proofs::Pairs::next_nowhere, crate::proofs::Pairs::set_nowhere))]
+    pub fn take(&mut self, port: Port) -> Option<WirePacket>
+        ensures taken { result ≡ packet_in self.old port }
+        ensures rest { self.new ≡ taken_in port self.old }
     {
-        match takes {
-            Some(link) => self.take_on(link),
-            None => None,
-        }
-    }
-
-    fn take_on(&mut self, link: LinkName) -> Option<WirePacket>
-        ensures taken { result ≡ next_at self.old link }
-        ensures rest { self.new ≡ taken_at link self.old }
-    {
-        match link {
-            LinkName::Forward {
-                topic,
-                source,
-                target,
-            } => {
-                let node = self.node(topic, source);
-                self.forward.take(node, target as usize)
-            }
-            LinkName::Back {
-                topic,
-                source,
-                target,
-            } => {
-                let node = self.node(topic, source);
-                self.back.take(node, target as usize)
-            }
-            LinkName::ToBroker { client, cluster } => {
-                self.to_broker.take(client as usize, cluster as usize)
-            }
-            LinkName::ToClient { client, cluster } => {
-                self.to_client.take(client as usize, cluster as usize)
-            }
+        if port.number < self.links.len() {
+            self.links[port.number].take()
+        } else {
+            None
         }
     }
 
@@ -156,10 +109,7 @@ impl Links {
     pub fn discard_all(&mut self)
         ensures { self.new ≡ all_discarded self.old }
     {
-        self.forward.discard();
-        self.back.discard();
-        self.to_broker.discard();
-        self.to_client.discard();
+        discard_links(self.links.as_mut_slice());
     }
 
     /// Sends what a node sends in an event of this stamp, in order, whole or not at all: unchanged where memory is wanting. All of it is
@@ -178,80 +128,69 @@ impl Links {
         let Some(first) = sent.pop_front() else {
             return Ok(());
         };
-        let link = link_to(from, first.to);
+        let port = self.port_of(link_to(from, first.to));
         if sent.is_empty() {
-            return self.send(link, stamped(stamp, first));
+            return self.send(port, stamped(stamp, first));
         }
-        self.send(link, stamped(stamp, first))?;
+        self.send(port, stamped(stamp, first))?;
         match self.deliver(from, stamp, sent) {
             Ok(()) => Ok(()),
             Err(memory) => {
-                self.unsend(link);
+                self.unsend(port);
                 Err(memory)
             }
         }
     }
 
-    fn send(&mut self, link: LinkName, packet: WirePacket) -> Result<(), Memory>
-        ensures ok { OnOk result (self.new ≡ sent_on link packet self.old) }
+    #[tactic(auto, using(crate::proofs::Pairs::set_nowhere))]
+    fn send(&mut self, port: usize, packet: WirePacket) -> Result<(), Memory>
+        ensures ok { OnOk result (self.new ≡ with_queue_in self.old port (with_last (queue_in self.old port) packet)) }
         ensures err { OnErr result (self.new ≡ self.old) }
     {
-        match link {
-            LinkName::Forward {
-                topic,
-                source,
-                target,
-            } => {
-                let node = self.node(topic, source);
-                self.forward.send(node, target as usize, packet)
-            }
-            LinkName::Back {
-                topic,
-                source,
-                target,
-            } => {
-                let node = self.node(topic, source);
-                self.back.send(node, target as usize, packet)
-            }
-            LinkName::ToBroker { client, cluster } => {
-                self.to_broker
-                    .send(client as usize, cluster as usize, packet)
-            }
-            LinkName::ToClient { client, cluster } => {
-                self.to_client
-                    .send(client as usize, cluster as usize, packet)
-            }
+        if port < self.links.len() {
+            self.links[port].send(packet)
+        } else {
+            Ok(())
         }
     }
 
     /// Takes back what was sent last on a link.
-    fn unsend(&mut self, link: LinkName)
-        ensures { self.new ≡ unsent_on link self.old }
+    #[tactic(auto, using(crate::proofs::Pairs::set_nowhere))]
+    fn unsend(&mut self, port: usize)
+        ensures { self.new ≡ with_queue_in self.old port (without_last (queue_in self.old port)) }
     {
-        match link {
-            LinkName::Forward {
-                topic,
-                source,
-                target,
-            } => {
-                let node = self.node(topic, source);
-                self.forward.unsend(node, target as usize);
-            }
-            LinkName::Back {
-                topic,
-                source,
-                target,
-            } => {
-                let node = self.node(topic, source);
-                self.back.unsend(node, target as usize);
-            }
-            LinkName::ToBroker { client, cluster } => {
-                self.to_broker.unsend(client as usize, cluster as usize);
-            }
-            LinkName::ToClient { client, cluster } => {
-                self.to_client.unsend(client as usize, cluster as usize);
-            }
+        if port < self.links.len() {
+            self.links[port].unsend();
         }
+    }
+}
+
+/// How many links there are between so many brokers and clients. So many that 64 bits can't count them are in no memory.
+fn link_count(brokers: usize, clusters: usize, clients: usize) -> Option<usize>
+    ensures count { IfSome result (λ n. n ≡ row_count brokers clients * clusters) }
+    ensures rows { IfSome result (λ n. row_count brokers clients < 2 ^ 64) }
+{
+    let ends = clients.checked_add(clients)?;
+    let backs = brokers.checked_add(ends)?;
+    brokers.checked_add(backs)?.checked_mul(clusters)
+}
+
+/// So many empty links; an `Err` is want of memory.
+fn new_links(alloc: Global, count: usize) -> Result<Vec<Link>, Memory>
+    ensures { IfOk result (λ links. links.items ≡ replicate count []) }
+{
+    let mut links = Vec::new(alloc);
+    for _link in 0..count {
+        links.push(Link::new(alloc))?;
+    }
+    Ok(links)
+}
+
+fn discard_links(links: &mut [Link])
+    ensures { links.new ≡ emptied links.old }
+{
+    for link in links {
+        link.discard();
     }
 }
 

@@ -30,10 +30,10 @@ use Rattle.world.proofs.Places.{in_range_is, node_below, stands_at}
 use Rattle.world.specs.declared.fault.RunFault.{RunFault}
 use Rattle.world.specs.declared.broker_ref.BrokerRef.{BrokerRef}
 use Rattle.world.specs.Foreseen.{IsForeseen}
-use Rattle.world.specs.Steps.{broker_ref_at}
+use Rattle.world.specs.Steps.{IsBrokerOf}
 use Rattle.world.specs.World.{IsAt, SameWorld, WorldView, kept_of, no_node, node_at}
 use Rattle.kept_laws.proofs.Keeping.{done_is, event_plan, planned_is}
-use Rattle.kept_laws.specs.Events.{IsBrokers, node_of, plan_in}
+use Rattle.kept_laws.specs.Events.{IsBrokers, node_of, plan_in, topic_of}
 use Rattle.kept_laws.specs.Kept.{Kept}
 use Rattle.kept_laws.specs.Standing.{Stands}
 use Rattle.world_laws.proofs.Induction.Frames.{at_set}
@@ -209,8 +209,8 @@ asked_known b n u ks ks' is known others h = record { at = at }
       | inr other ↦ subst (λ (r : KnownBacklogs). TellsBacklogs r (slice_index_or bs k no_broker)) (sym (others k other)) (h.at k)
     ]
 
-pub number_there : (s : Setup) (e : Event) (place : BrokerRef) (n : ℕ) → place ≡ broker_ref_at s e → n ≡ node s place.topic place.cluster → n ≡ node_of s e
-number_there s e place n at is = is ∙ ap (λ (a : BrokerRef). node s a.topic a.cluster) at
+pub number_there : (s : Setup) (e : Event) (place : BrokerRef) (n : ℕ) → IsBrokerOf s e place → n ≡ node s place.topic place.cluster → n ≡ node_of s e
+number_there s e place n at is = is ∙ ap (λ (t : ℕ). node s t place.cluster) at.topic ∙ ap (λ (x : ℕ). node s (topic_of s e) x) at.cluster
 
 -- where an event was not to rest, it does not
 pub never_rests : (r : Bool) → (r ≡ true → false ≡ true) → r ≡ false

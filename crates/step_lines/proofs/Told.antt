@@ -37,7 +37,7 @@ use Rattle.world.specs.declared.fault.RunFault.TheVariants as fault
 use Rattle.world.specs.ClientSteps.{client_in as log_client}
 use Rattle.world.specs.Foreseen.{IsForeseen}
 use Rattle.world.specs.Settling.{settled_by}
-use Rattle.world.specs.Steps.{broker_ref_at}
+use Rattle.world.specs.Steps.{IsBrokerOf}
 use Rattle.world.specs.World.{IsAt, SameWorld, WorldView, kept_of, node_at}
 use Rattle.world.specs.declared.broker_ref.BrokerRef.{BrokerRef}
 use Rattle.world.proofs.ClientEvents.{client_below}
@@ -314,9 +314,10 @@ from_text i s b e c old mid u is told = told ∙ ap (λ (t : StepText). tells_at
 
 -- ---- the broker of an event
 
-pub place_there : (s : Setup) (e : Event) (brokers : List BrokerView) (broker_ref : BrokerRef) (u : BrokerView) → broker_ref ≡ broker_ref_at s e → u ≡ node_at brokers (node s broker_ref.topic broker_ref.cluster)
+pub place_there : (s : Setup) (e : Event) (brokers : List BrokerView) (broker_ref : BrokerRef) (u : BrokerView) → IsBrokerOf s e broker_ref → u ≡ node_at brokers (node s broker_ref.topic broker_ref.cluster)
     → u ≡ node_at brokers (node_of s e)
-place_there s e brokers broker_ref u at is = is ∙ ap (λ (a : BrokerRef). node_at brokers (node s a.topic a.cluster)) at
+place_there s e brokers broker_ref u at is =
+    is ∙ ap (λ (t : ℕ). node_at brokers (node s t broker_ref.cluster)) at.topic ∙ ap (λ (x : ℕ). node_at brokers (node s (topic_of s e) x)) at.cluster
 
 abbrev SeenAs : Bool → ℕ → Broker → NotedBroker → Result (Unit {0}) Memory → Type 0
 SeenAs rests n b k r = OnOk r (IsSeen rests n b k)

@@ -15,7 +15,7 @@ ghost use Rattle.step_lines.specs.Telling.{IsActed, IsClients, IsTelling, client
 ghost use Rattle.step_lines.specs.Texts.{telling_of};
 ghost use Rattle.world.specs.ClientSteps.{client_in};
 ghost use Rattle.world.specs.declared.fault.RunFault.TheVariants as fault;
-ghost use Rattle.world.specs.Steps.{Acts, IsLater, Leads, broker_ref_at};
+ghost use Rattle.world.specs.Steps.{Acts, IsBrokerOf, IsLater, Leads};
 ghost use Rattle.world.specs.World.{IsAt, SameWorld, kept_of, node_at};
 ghost use Rattle.kept_laws.specs.Events.{IsBrokers, node_of};
 ghost use Rattle.kept_laws.specs.Reached.{Reached};
@@ -31,7 +31,7 @@ use crate::sub_names::are_apart;
 use geo_base::{Event, Memory};
 use script_text::{ClientDecl, Scenario};
 use std::alloc::Global;
-use world::{BrokerRef, RunFault, World, broker_ref_of};
+use world::{BrokerRef, RunFault, World};
 
 impl<'a> Steps<'a> {
     /// An event of a client, and what it changed there.
@@ -144,7 +144,7 @@ impl<'a> Steps<'a> {
         ensures idle { result ≡ Ok false → SameWorld world.old world.new }
         ensures past { (n : ℕ) → result ≡ Err (fault.TooLarge n) → SameWorld world.old world.new }
     {
-        let broker_ref = broker_ref_of(scenario, event);
+        let broker_ref = world.broker_ref(scenario, event);
         self.plan.clear();
         let is_ready = world.prepare(alloc, scenario, event, broker_ref, &mut self.plan)?;
         if !is_ready {
@@ -181,7 +181,7 @@ impl<'a> Steps<'a> {
         ensures backlogs { OnOk result (AreBacklogs self.new.backlogs (kept_of world.new).brokers) }
         ensures past { (n : ℕ) → result ≡ Err (fault.TooLarge n) → SameWorld world.old world.new }
     {
-        let broker_ref = broker_ref_of(scenario, event);
+        let broker_ref = world.broker_ref(scenario, event);
         self.note(alloc, world, scenario, event, broker_ref, false)?;
         self.backlogs.forget(number_of(scenario, broker_ref));
         world.halt(alloc, scenario, writes, event)?;
@@ -202,7 +202,7 @@ impl<'a> Steps<'a> {
         requires at { IsAt scenario.now.setup world.now }
         requires broker { IsBrokers event.now }
         requires scripted { IsEvent scenario.now.setup event.now }
-        requires broker_ref { broker_ref ≡ broker_ref_at scenario.now.setup event.now }
+        requires broker_ref { IsBrokerOf scenario.now.setup event.now broker_ref }
         requires backlogs { AreBacklogs self.old.backlogs (kept_of world.now).brokers }
         ensures noted { OnOk result (IsSeen self.new.rests (length scenario.now.setup.clusters) (node_at world.now.brokers (node_of scenario.now.setup event.now)).broker self.new.noted) }
         ensures rests { self.new.rests ≡ true → (may_rest ≡ true) × (are_apart (node_at world.now.brokers (node_of scenario.now.setup event.now)).broker.subs ≡ true) }
@@ -233,7 +233,7 @@ impl<'a> Steps<'a> {
         requires at { IsAt scenario.now.setup world.now }
         requires broker { IsBrokers event.now }
         requires scripted { IsEvent scenario.now.setup event.now }
-        requires broker_ref { broker_ref ≡ broker_ref_at scenario.now.setup event.now }
+        requires broker_ref { IsBrokerOf scenario.now.setup event.now broker_ref }
         requires has { self.old.rests ≡ false → node_of scenario.now.setup event.now < length self.old.backlogs }
         requires backlogs { AreBacklogs self.old.backlogs (kept_of world.now).brokers }
         ensures followed { (per : ℕ) → OnOk result (MayFollow self.old.rests (node_of scenario.now.setup event.now) per (node_at world.now.brokers (node_of scenario.now.setup event.now)).broker self.old.plan self.old.backlogs self.new.backlogs) }
@@ -264,7 +264,7 @@ impl<'a> Steps<'a> {
         requires knows { IsTelling scenario.now.setup self.old.telling.names self.old.telling.number self.old.telling.said }
         requires broker { IsBrokers event.now }
         requires scripted { IsEvent scenario.now.setup event.now }
-        requires broker_ref { broker_ref ≡ broker_ref_at scenario.now.setup event.now }
+        requires broker_ref { IsBrokerOf scenario.now.setup event.now broker_ref }
         requires noted { length self.old.noted.replicators.items ≡ length scenario.now.setup.clusters }
         requires backlogs { AreBacklogs self.old.backlogs (kept_of world.now).brokers }
         ensures told { (b : Machine) → IsSeen self.old.rests (length scenario.now.setup.clusters) b self.old.noted

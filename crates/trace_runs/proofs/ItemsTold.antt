@@ -28,7 +28,7 @@ use Rattle.world.specs.declared.fault.RunFault.{RunFault}
 use Rattle.world.specs.declared.fault.RunFault.TheVariants as fault
 use Rattle.world.specs.Foreseen.{IsForeseen}
 use Rattle.world.specs.declared.broker_ref.BrokerRef.{BrokerRef}
-use Rattle.world.specs.Steps.{Leads, broker_ref_at}
+use Rattle.world.specs.Steps.{IsBrokerOf, Leads}
 use Rattle.world.specs.World.{IsWithin, SameWorld, WorldView, kept_of, node_at}
 use Rattle.world.proofs.Places.{in_range_is}
 use Rattle.kept_laws.proofs.Keeping.{done_is, event_plan, planned_is}
@@ -228,9 +228,10 @@ past_from old mid new r same err n is =
 
 -- ---- the broker that was foreseen
 
-pub there : (s : Setup) (e : Event) (brokers : List BrokerView) (broker_ref : BrokerRef) (u : BrokerView) → broker_ref ≡ broker_ref_at s e → u ≡ node_at brokers (node s broker_ref.topic broker_ref.cluster)
+pub there : (s : Setup) (e : Event) (brokers : List BrokerView) (broker_ref : BrokerRef) (u : BrokerView) → IsBrokerOf s e broker_ref → u ≡ node_at brokers (node s broker_ref.topic broker_ref.cluster)
     → u ≡ node_at brokers (node_of s e)
-there s e brokers broker_ref u at is = is ∙ ap (λ (a : BrokerRef). node_at brokers (node s a.topic a.cluster)) at
+there s e brokers broker_ref u at is =
+    is ∙ ap (λ (t : ℕ). node_at brokers (node s t broker_ref.cluster)) at.topic ∙ ap (λ (x : ℕ). node_at brokers (node s (topic_of s e) x)) at.cluster
 
 pub foreseen_there : (s : Setup) (w : World) (e : Event) (u v : BrokerView) (p : PlanView) → u ≡ v → IsForeseen s w e v p → IsForeseen s w e u p
 foreseen_there s w e u v p is f = subst (λ (z : BrokerView). IsForeseen s w e z p) (sym is) f

@@ -15,7 +15,7 @@ ghost use Rattle.geo_base.specs.World.{World as Machine};
 ghost use Rattle.script_text.specs.Scenario.{IsEvent};
 ghost use Rattle.world.specs.declared.fault.RunFault.TheVariants as fault;
 ghost use Rattle.world.specs.Foreseen.{IsForeseen};
-ghost use Rattle.world.specs.Steps.{Acts, IsLater, Leads, broker_ref_at};
+ghost use Rattle.world.specs.Steps.{Acts, IsBrokerOf, IsLater, Leads};
 ghost use Rattle.world.specs.World.{IsAt, SameWorld, kept_of, node_at};
 ghost use Rattle.kept_laws.specs.Events.{IsBrokers, node_of};
 ghost use Rattle.kept_laws.specs.Reached.{Reached};
@@ -29,7 +29,7 @@ use broker::Broker;
 use geo_base::{Event, Memory};
 use script_text::Scenario;
 use std::alloc::Global;
-use world::{BrokerRef, RunFault, World, broker_ref_of};
+use world::{BrokerRef, RunFault, World};
 
 impl Trace {
     /// An event of a client, of which a trace tells only that it happened.
@@ -111,7 +111,7 @@ impl Trace {
         ensures tables { OnOk result (AreTables scenario.now.setup self.new.telling.snapshots (kept_of world.new).brokers) }
         ensures err { OnErr result (SameWorld world.old world.new) }
     {
-        let broker_ref = broker_ref_of(scenario, event);
+        let broker_ref = world.broker_ref(scenario, event);
         self.plan.clear();
         let is_ready = world.prepare(alloc, scenario, event, broker_ref, &mut self.plan)?;
         if !is_ready {
@@ -144,7 +144,7 @@ impl Trace {
         ensures tables { OnOk result (AreTables scenario.now.setup self.new.telling.snapshots (kept_of world.new).brokers) }
         ensures past { (n : ℕ) → result ≡ Err (fault.TooLarge n) → SameWorld world.old world.new }
     {
-        let broker_ref = broker_ref_of(scenario, event);
+        let broker_ref = world.broker_ref(scenario, event);
         self.plan.clear();
         world.prepare_halt(alloc, scenario, event, broker_ref, &mut self.plan)?;
         self.tell_at(alloc, world, scenario, event, broker_ref, writes as usize)?;
@@ -165,7 +165,7 @@ impl Trace {
         requires tables { AreTables scenario.now.setup self.old.telling.snapshots (kept_of world.now).brokers }
         requires broker { IsBrokers event.now }
         requires scripted { IsEvent scenario.now.setup event.now }
-        requires broker_ref { broker_ref ≡ broker_ref_at scenario.now.setup event.now }
+        requires broker_ref { IsBrokerOf scenario.now.setup event.now broker_ref }
         requires foreseen { (w : Machine) → Reached scenario.now.setup w → Stands scenario.now.setup (kept_of world.now) w
             → IsForeseen scenario.now.setup w event.now (node_at world.now.brokers (node_of scenario.now.setup event.now)) self.old.plan }
         ensures told { (w : Machine) → Reached scenario.now.setup w → Stands scenario.now.setup (kept_of world.now) w

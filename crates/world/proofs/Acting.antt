@@ -1,14 +1,16 @@
 -- An event of a broker, which is done where it is enabled; and as a run has it, which counts it where it is not.
 use Rattle.std.proofs.Common.{◌≡◌, ℕ, ◌+◌, Bool, true, false, refl, sym, ◌∙◌, ap, subst, arith}
 use Rattle.std.proofs.lemmas.Bool.{false≢true}
-use Rattle.std.specs.Prelude.{Some, None, Result, Ok, Err, OnOk}
+use Rattle.std.specs.Prelude.{Option, Some, None, Result, Ok, Err, OnOk}
 use Rattle.geo_base.specs.declared.event.Event.{Event}
 use Rattle.geo_base.specs.Happening.{happens}
 use Rattle.geo_base.specs.Setup.{Setup}
 use Rattle.geo_base.specs.World.{World, node}
 use Rattle.broker_state.specs.Plan.{PlanView}
 use Rattle.script_text.specs.Scenario.{IsEvent}
-use Rattle.links.specs.Queues.{bytes_of}
+use Rattle.links.proofs.Found.{next_found}
+use Rattle.links.specs.Queues.{IsFound, WireLinks, bytes_of, packet_in, packet_on}
+use Rattle.wire_ends.specs.declared.packet.WirePacket.{WirePacket}
 use Rattle.kept_laws.proofs.Keeping.{counts}
 use Rattle.kept_laws.specs.Events.{IsBrokers, node_of, sender_of, takes_of}
 use Rattle.kept_laws.specs.Kept.{Kept, broker_acted, idled}
@@ -19,7 +21,7 @@ use Rattle.world.specs.declared.fault.RunFault.TheVariants as fault
 use Rattle.world.specs.declared.broker_ref.BrokerRef.{BrokerRef}
 use Rattle.broker.specs.Node.{IsReady}
 use Rattle.world.specs.Foreseen.{IsHalfDone}
-use Rattle.world.specs.Steps.{Acts, IsFinished, IsLater, Leads, PreparesAt, done_at, broker_ref_at}
+use Rattle.world.specs.Steps.{Acts, IsBrokerOf, IsFinished, IsLater, Leads, PreparesAt, done_at, broker_ref_at}
 use Rattle.world.specs.World.{IsAt, SameWorld, WorldView, kept_of, node_at}
 use Rattle.world.proofs.After.{after_event}
 use Rattle.world.proofs.Halting.{ok_err}
@@ -33,29 +35,41 @@ pub record IsPlanned (s : Setup) (old mid : WorldView) (e : Event) (broker_ref :
   pub same : SameWorld old mid
   pub brokers : IsBrokers e
   pub scripted : IsEvent s e
-  pub there : broker_ref ≡ broker_ref_at s e
+  pub there : broker_ref ≡ broker_ref_at s old.links e
   pub number : n ≡ node_of s e
-  pub prepares : PreparesAt old n broker_ref.takes e p
+  pub prepares : PreparesAt old n (packet_in old.links broker_ref.takes) e p
 
-pub number_is : (s : Setup) (e : Event) (broker_ref : BrokerRef) (n : ℕ) → broker_ref ≡ broker_ref_at s e → n ≡ node s broker_ref.topic broker_ref.cluster → n ≡ node_of s e
-number_is s e broker_ref n is number = number ∙ ap (λ (a : BrokerRef). node s a.topic a.cluster) is
+pub number_is : (s : Setup) (ls : WireLinks) (e : Event) (broker_ref : BrokerRef) (n : ℕ) → broker_ref ≡ broker_ref_at s ls e → n ≡ node s broker_ref.topic broker_ref.cluster → n ≡ node_of s e
+number_is s ls e broker_ref n is number = number ∙ ap (λ (a : BrokerRef). node s a.topic a.cluster) is
+
+-- the link that it takes from was found
+pub found_there : (s : Setup) (ls : WireLinks) (e : Event) (broker_ref : BrokerRef) → broker_ref ≡ broker_ref_at s ls e → IsFound ls broker_ref.takes
+found_there s ls e broker_ref is = subst (λ (a : BrokerRef). IsFound ls a.takes) (sym is) refl
+
+pub broker_of : (s : Setup) (ls : WireLinks) (e : Event) (broker_ref : BrokerRef) → broker_ref ≡ broker_ref_at s ls e → IsBrokerOf s e broker_ref
+broker_of s ls e broker_ref is = record { topic = ap (λ (a : BrokerRef). a.topic) is; cluster = ap (λ (a : BrokerRef). a.cluster) is }
+
+pub ref_same : (s : Setup) (old mid : WorldView) (e : Event) (broker_ref : BrokerRef) → SameWorld old mid → broker_ref ≡ broker_ref_at s old.links e → broker_ref ≡ broker_ref_at s mid.links e
+ref_same s old mid e broker_ref same is = is ∙ ap (λ (k : Kept). broker_ref_at s k.links e) (sym same.kept)
 
 pub plans : (s : Setup) (old mid : WorldView) (e : Event) (broker_ref : BrokerRef) (n : ℕ) (p : PlanView) → IsAt s old → SameWorld old mid → IsBrokers e → IsEvent s e
-    → broker_ref ≡ broker_ref_at s e → n ≡ node s broker_ref.topic broker_ref.cluster → PreparesAt old n broker_ref.takes e p → IsPlanned s old mid e broker_ref n p
+    → broker_ref ≡ broker_ref_at s old.links e → n ≡ node s broker_ref.topic broker_ref.cluster → PreparesAt old n (packet_in old.links broker_ref.takes) e p → IsPlanned s old mid e broker_ref n p
 plans s old mid e broker_ref n p at same brokers scripted there number prepares = record {
   at = at;
   same = same;
   brokers = brokers;
   scripted = scripted;
   there = there;
-  number = number_is s e broker_ref n there number;
+  number = number_is s old.links e broker_ref n there number;
   prepares = prepares;
 }
 
 pub prepared_there : (s : Setup) (old mid : WorldView) (e : Event) (broker_ref : BrokerRef) (n : ℕ) (p : PlanView) → IsPlanned s old mid e broker_ref n p
-    → PreparesAt old (node_of s e) (takes_of e) e p
+    → PreparesAt old (node_of s e) (packet_on old.links (takes_of e)) e p
 prepared_there s old mid e broker_ref n p h =
-    subst (λ (m : ℕ). PreparesAt old m (takes_of e) e p) h.number (subst (λ (a : BrokerRef). PreparesAt old n a.takes e p) h.there h.prepares)
+    let taken : packet_in old.links broker_ref.takes ≡ packet_on old.links (takes_of e) =
+    next_found old.links broker_ref.takes (found_there s old.links e broker_ref h.there) ∙ ap (λ (a : BrokerRef). packet_on old.links a.takes.link) h.there in
+    subst (λ (o : Option WirePacket). PreparesAt old (node_of s e) o e p) taken (subst (λ (m : ℕ). PreparesAt old m (packet_in old.links broker_ref.takes) e p) h.number h.prepares)
 
 -- ---- what it leads to
 
@@ -118,18 +132,18 @@ pub record IsHalved (s : Setup) (b : WorldView) (e : Event) (broker_ref : Broker
   pub at : IsAt s b
   pub brokers : IsBrokers e
   pub scripted : IsEvent s e
-  pub there : broker_ref ≡ broker_ref_at s e
+  pub there : broker_ref ≡ broker_ref_at s b.links e
   pub number : n ≡ node_of s e
   pub half : IsHalfDone s b e p
 
-pub halves : (s : Setup) (b : WorldView) (e : Event) (broker_ref : BrokerRef) (n : ℕ) (p : PlanView) → IsAt s b → IsBrokers e → IsEvent s e → broker_ref ≡ broker_ref_at s e
+pub halves : (s : Setup) (b : WorldView) (e : Event) (broker_ref : BrokerRef) (n : ℕ) (p : PlanView) → IsAt s b → IsBrokers e → IsEvent s e → broker_ref ≡ broker_ref_at s b.links e
     → n ≡ node s broker_ref.topic broker_ref.cluster → IsHalfDone s b e p → IsHalved s b e broker_ref n p
 halves s b e broker_ref n p at brokers scripted there number half = record {
   at = at;
   brokers = brokers;
   scripted = scripted;
   there = there;
-  number = number_is s e broker_ref n there number;
+  number = number_is s b.links e broker_ref n there number;
   half = half;
 }
 
@@ -149,9 +163,9 @@ pub acts_done : (s : Setup) (b new : WorldView) (w : World) (e : Event) (broker_
     → limit_of (b.events + 1) b.idle (b.frame_bytes + bytes_of p.sent) ≡ None → Reached s w → Stands s (kept_of b) w → Acts s b new (happens s w e) (Ok true)
 acts_done s b new w e broker_ref n p h finished low reached stands =
     let next = stands_acted s b w e broker_ref n p h reached stands in
-    let there : IsFinished (broker_ref_at s e) (node_of s e) p b new =
-    subst (λ (m : ℕ). IsFinished (broker_ref_at s e) m p b new) h.number (subst (λ (a : BrokerRef). IsFinished a n p b new) h.there finished) in
-    (subst (λ (k : Kept). Stands s k (happens s w e)) (sym there.kept) next, counts s (acted s b e p) (happens s w e) next ∙ low)
+    let there : IsFinished (broker_ref_at s b.links e) (node_of s e) p b new =
+    subst (λ (m : ℕ). IsFinished (broker_ref_at s b.links e) m p b new) h.number (subst (λ (a : BrokerRef). IsFinished a n p b new) h.there finished) in
+    (subst (λ (k : Kept). Stands s k (happens s w e)) (sym (there.kept refl)) next, counts s (acted s b e p) (happens s w e) next ∙ low)
 
 pub acts_past : (s : Setup) (b new : WorldView) (w : World) (e : Event) (broker_ref : BrokerRef) (n : ℕ) (p : PlanView) (f : RunFault) → IsHalved s b e broker_ref n p
     → ((i : ℕ) → failed f ≡ failed (fault.TooLarge i) → limit_of (b.events + 1) b.idle (b.frame_bytes + bytes_of p.sent) ≡ Some i)
@@ -161,10 +175,11 @@ acts_past s b new w e broker_ref n p (fault.TooLarge i) h large reached stands =
     (sym next.idle, counts s (acted s b e p) (happens s w e) next ∙ large i refl)
 acts_past s b new w e broker_ref n p fault.Memory h large reached stands = tt
 
-pub later_done : (b new : WorldView) (broker_ref : BrokerRef) (n : ℕ) (p : PlanView) → IsFinished broker_ref n p b new → IsLater b new
-later_done b new broker_ref n p done =
-    let more : new.events ≡ b.events + 1 = ap (λ (k : Kept). k.events) done.kept in
-    record { events = omega (arith, more); idle = ap (λ (k : Kept). k.idle) done.kept; rounds = ap (λ (k : Kept). k.rounds) done.kept }
+pub later_done : (s : Setup) (b new : WorldView) (e : Event) (broker_ref : BrokerRef) (n : ℕ) (p : PlanView) → IsHalved s b e broker_ref n p → IsFinished broker_ref n p b new → IsLater b new
+later_done s b new e broker_ref n p h done =
+    let kept = done.kept (found_there s b.links e broker_ref h.there) in
+    let more : new.events ≡ b.events + 1 = ap (λ (k : Kept). k.events) kept in
+    record { events = omega (arith, more); idle = ap (λ (k : Kept). k.idle) kept; rounds = ap (λ (k : Kept). k.rounds) kept }
 
 -- where it is done, the next event can begin
 pub at_done : (s : Setup) (b new : WorldView) (e : Event) (broker_ref : BrokerRef) (n : ℕ) (p : PlanView) → IsHalved s b e broker_ref n p → IsFinished broker_ref n p b new

@@ -1,7 +1,7 @@
 -- An event whose packets were sent, and which was done then: of a broker, and of a client.
 use Rattle.std.proofs.Common.{◌≡◌, ℕ, ◌+◌, true, List, [], ◌∷◌, length, refl, sym, ◌∙◌, ap, subst, arith}
 use Rattle.std.proofs.lemmas.Bool.{eqb-true}
-use Rattle.std.specs.Prelude.{◌==◌, Some, None, Ok, Err, OnOk, slice_set}
+use Rattle.std.specs.Prelude.{◌==◌, Option, Some, None, Ok, Err, OnOk, slice_set}
 use Rattle.client.specs.Changing.{client_after}
 use Rattle.client.specs.Prepared.{PreparedClient}
 use Rattle.geo_base.specs.declared.packet.WireOut.{WireOut}
@@ -9,13 +9,15 @@ use Rattle.geo_base.specs.Broker.{Broker}
 use Rattle.broker_state.specs.Plan.{PlanView}
 use Rattle.links.specs.declared.name.Node.{Node}
 use Rattle.links.specs.declared.name.Node.TheVariants as wire_node
-use Rattle.links.specs.Queues.{bytes_of, delivered, taken_from}
+use Rattle.links.proofs.Found.{delivered_port, next_found, taken_found}
+use Rattle.links.specs.Queues.{IsFound, bytes_of, delivered, packet_in, stamp_of, taken_from}
+use Rattle.wire_ends.specs.declared.packet.WirePacket.{WirePacket}
 use Rattle.kept_laws.specs.Kept.{broker_acted, stamp_at}
 use Rattle.kept_laws.specs.Standing.{limit_of}
 use Rattle.world.specs.ClientSteps.{IsSent, client_in}
 use Rattle.world.specs.declared.fault.RunFault.TheVariants as fault
 use Rattle.world.specs.declared.broker_ref.BrokerRef.{BrokerRef}
-use Rattle.world.specs.Steps.{IsCommitted, IsFinished, IsSetNode, done_at}
+use Rattle.world.specs.Steps.{IsCommitted, IsFinished, IsSetNode, done_at, stamp_over}
 use Rattle.world.specs.World.{WorldView, brokers_of, kept_of, node_at}
 use Rattle.world.proofs.Leading.{Answer}
 
@@ -55,15 +57,15 @@ none_past b os r none large n is = subst (λ (m : ℕ). limit_of (b.events + 1) 
 -- ---- of a broker
 
 acted_is : (broker_ref : BrokerRef) (from : Node) (n stamp : ℕ) (v : Broker) (os : List WireOut) (old new : WorldView) → from ≡ wire_node.Broker broker_ref.topic broker_ref.cluster
-    → stamp ≡ stamp_at old.broker_clocks n old.links broker_ref.takes → brokers_of new.brokers ≡ slice_set (brokers_of old.brokers) n v → new.clients ≡ old.clients
-    → new.links ≡ taken_from broker_ref.takes (delivered from stamp os old.links) → new.broker_clocks ≡ slice_set old.broker_clocks n stamp
+    → stamp ≡ stamp_at old.broker_clocks n old.links broker_ref.takes.link → brokers_of new.brokers ≡ slice_set (brokers_of old.brokers) n v → new.clients ≡ old.clients
+    → new.links ≡ taken_from broker_ref.takes.link (delivered from stamp os old.links) → new.broker_clocks ≡ slice_set old.broker_clocks n stamp
     → new.client_clocks ≡ old.client_clocks → new.events ≡ old.events + 1 → new.idle ≡ old.idle → new.rounds ≡ old.rounds
     → new.frame_bytes ≡ old.frame_bytes + bytes_of os
-    → kept_of new ≡ broker_acted (kept_of old) n (wire_node.Broker broker_ref.topic broker_ref.cluster) broker_ref.takes v os
+    → kept_of new ≡ broker_acted (kept_of old) n (wire_node.Broker broker_ref.topic broker_ref.cluster) broker_ref.takes.link v os
 acted_is broker_ref from n stamp v os old new sender at brokers clients links broker_clocks client_clocks events idle rounds frame_bytes = cc
 
 pub finished : (broker_ref : BrokerRef) (from : Node) (n stamp : ℕ) (p q : PlanView) (old mid new : WorldView) → from ≡ wire_node.Broker broker_ref.topic broker_ref.cluster
-    → stamp ≡ stamp_at old.broker_clocks n old.links broker_ref.takes
+    → stamp ≡ stamp_over old.broker_clocks n (stamp_of (packet_in old.links broker_ref.takes))
     → mid ≡ record old { links = delivered from stamp p.sent old.links; frame_bytes = old.frame_bytes + bytes_of p.sent } → q ≡ record p { sent = [] }
     → IsSetNode mid.brokers new.brokers n (done_at (node_at mid.brokers n) q) → IsCommitted broker_ref n stamp mid new → IsFinished broker_ref n p old new
 finished broker_ref from n stamp p q old mid new sender at sent rest set committed =
@@ -73,8 +75,11 @@ finished broker_ref from n stamp p q old mid new sender at sent rest set committ
     subst (λ (r : PlanView). IsSetNode old.brokers new.brokers n (done_at (node_at old.brokers n) r)) rest
     (subst (λ (b : WorldView). IsSetNode b.brokers new.brokers n (done_at (node_at b.brokers n) q)) sent set) in
     record {
-      kept = acted_is broker_ref from n stamp (done_at (node_at old.brokers n) p) p.sent old new sender at node.brokers is.clients is.links is.broker_clocks is.client_clocks
-          is.events is.idle is.rounds is.frame_bytes;
+      kept = λ found.
+          let sent_there : IsFound (delivered from stamp p.sent old.links) broker_ref.takes = found ∙ sym (delivered_port from stamp p.sent old.links broker_ref.takes.link) in
+          acted_is broker_ref from n stamp (done_at (node_at old.brokers n) p) p.sent old new sender
+          (at ∙ ap (λ (o : Option WirePacket). stamp_over old.broker_clocks n (stamp_of o)) (next_found old.links broker_ref.takes found)) node.brokers is.clients
+          (is.links ∙ taken_found (delivered from stamp p.sent old.links) broker_ref.takes sent_there) is.broker_clocks is.client_clocks is.events is.idle is.rounds is.frame_bytes;
       same = node.same;
     }
 

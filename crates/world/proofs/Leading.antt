@@ -74,7 +74,7 @@ takes_stands s b w e h brokers here reached stands =
     (input s (kept_of b) w (takes_of e) (told_frames s w h.setup reached) stands)
 
 pub prepared_plan : (s : Setup) (b : WorldView) (w : World) (e : Event) (p : PlanView) → IsAt s b → IsBrokers e → IsEvent s e → Reached s w → Stands s (kept_of b) w
-    → PreparesAt b (node_of s e) (takes_of e) e p
+    → PreparesAt b (node_of s e) (packet_on b.links (takes_of e)) e p
     → IsPrepared (node_at b.brokers (node_of s e)).site (node_at b.brokers (node_of s e)).broker (plan_in s w e) p
 prepared_plan s b w e p h brokers here reached stands prepared =
     let v = node_at b.brokers (node_of s e) in
@@ -121,7 +121,7 @@ foreseen_stands s b w e p h brokers here reached stands prepared busy =
     (broker_done s (kept_of b) w e p.sent brokers (in_range_is s e here) (ground s h.setup w reached) stands (sym is ∙ busy) sent)
 
 pub idle_stands : (s : Setup) (old mid : WorldView) (w : World) (e : Event) (p : PlanView) → IsAt s old → SameWorld old mid → IsBrokers e → IsEvent s e
-    → Reached s w → Stands s (kept_of old) w → PreparesAt old (node_of s e) (takes_of e) e p → p.idle ≡ true
+    → Reached s w → Stands s (kept_of old) w → PreparesAt old (node_of s e) (packet_on old.links (takes_of e)) e p → p.idle ≡ true
     → Stands s (idled (kept_of mid)) (happens s w e)
 idle_stands s old mid w e p h same brokers here reached stands prepares idle =
     let v = node_at old.brokers (node_of s e) in let plan = plan_in s w e in

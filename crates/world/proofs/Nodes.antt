@@ -15,10 +15,8 @@ use Rattle.broker.specs.Events.{IsNodeOf, plan_at_node}
 use Rattle.broker.specs.Input.{StandsForInput}
 use Rattle.broker.specs.Node.{IsReady, BrokerView, SameNode}
 use Rattle.frame_laws.specs.BytePackets.{StandsForPacket}
-use Rattle.links.specs.declared.name.LinkName.{LinkName}
 use Rattle.wire_ends.specs.declared.packet.WirePacket.{WirePacket}
 use Rattle.links.specs.Each.{Both, both, neither}
-use Rattle.links.specs.Queues.{packet_on}
 use Rattle.world_laws.proofs.Induction.Frames.{at_set}
 use Rattle.world.specs.Steps.{IsSetNode, PreparesAt}
 use Rattle.world.specs.World.{AreNodes, SameWorld, WorldView, brokers_of, kept_of, no_node, node_at}
@@ -58,14 +56,14 @@ pub next_is : (names : List (List ℕ)) (o : Option WirePacket) (v : Option Pack
 next_is names _ _ neither = tt
 next_is names (Some w) (Some p) (both r) = r
 
-pub prepares : (old : WorldView) (n : ℕ) (takes : Option LinkName) (e : Event) (p : PlanView) (r : Result (Unit {0}) Memory) (i : Option WirePacket) → i ≡ packet_on old.links takes
+pub prepares : (old : WorldView) (n : ℕ) (taken : Option WirePacket) (e : Event) (p : PlanView) (r : Result (Unit {0}) Memory) (i : Option WirePacket) → i ≡ taken
     → ((v : Option Packet) → StandsForInput (node_at old.brokers n).site.clusters i v
     → OnOk r (IsPrepared (node_at old.brokers n).site (node_at old.brokers n).broker (plan_at_node (node_at old.brokers n) e v) p))
-    → OnOk r (PreparesAt old n takes e p)
-prepares old n takes e p r i is f =
+    → OnOk r (PreparesAt old n taken e p)
+prepares old n taken e p r i is f =
     let u = node_at old.brokers n in
-    flips (λ (v : Option Packet). Both (StandsForPacket u.site.clusters) (packet_on old.links takes) v) (λ v. IsPrepared u.site u.broker (plan_at_node u e v) p) r
-    (λ v both. f v (subst (λ (j : Option WirePacket). StandsForInput u.site.clusters j v) (sym is) (next_is u.site.clusters (packet_on old.links takes) v both)))
+    flips (λ (v : Option Packet). Both (StandsForPacket u.site.clusters) taken v) (λ v. IsPrepared u.site u.broker (plan_at_node u e v) p) r
+    (λ v both. f v (subst (λ (j : Option WirePacket). StandsForInput u.site.clusters j v) (sym is) (next_is u.site.clusters taken v both)))
 
 ready_at : (vs : List BrokerView) (n : ℕ) (v : BrokerView) (p : PlanView) → n < length vs → IsReady v p → IsReady (node_at (slice_set vs n v) n) p
 ready_at vs n v p lt ready = rw (get_or-set_same vs n v no_node lt) ready

@@ -5,6 +5,7 @@ use Rattle.geo_base.specs.Setup.{Setup}
 use Rattle.geo_base.specs.World.{World, node}
 use Rattle.broker.specs.Node.{IsReady}
 use Rattle.broker_state.specs.Plan.{PlanView}
+use Rattle.links.specs.Queues.{packet_in}
 use Rattle.kept_laws.specs.Events.{IsBrokers, node_of, plan_in}
 use Rattle.kept_laws.specs.Kept.{Kept}
 use Rattle.kept_laws.specs.Reached.{Reached}
@@ -40,7 +41,7 @@ half_done s old mid e broker_ref n p h ready busy = record {
 
 -- and of a stop in its midst, idle or not
 pub foreseen_halt : (s : Setup) (old mid : WorldView) (e : Event) (broker_ref : BrokerRef) (n : ℕ) (p : PlanView) (r : Result (Unit {0}) Memory) → IsAt s old → SameWorld old mid → IsBrokers e → IsEvent s e
-    → broker_ref ≡ broker_ref_at s e → n ≡ node s broker_ref.topic broker_ref.cluster → OnOk r (PreparesAt old n broker_ref.takes e p)
+    → broker_ref ≡ broker_ref_at s old.links e → n ≡ node s broker_ref.topic broker_ref.cluster → OnOk r (PreparesAt old n (packet_in old.links broker_ref.takes) e p)
     → OnOk r ((w : World) → Reached s w → Stands s (kept_of mid) w → IsForeseen s w e (node_at mid.brokers (node_of s e)) p)
 foreseen_halt s old mid e broker_ref n p (Err m) at same brokers scripted there number prepared = tt
 foreseen_halt s old mid e broker_ref n p (Ok unit) at same brokers scripted there number prepared = λ w reached stands.

@@ -6,12 +6,14 @@ use Rattle.geo_base.specs.Client.{Client, new_client}
 use Rattle.geo_base.specs.declared.packet.Packet.{Packet}
 use Rattle.geo_base.specs.Getting.{get}
 use Rattle.geo_base.specs.Setup.{Declared, nobody}
+use Rattle.world.specs.Steps.{stamp_over}
 use Rattle.world.specs.World.{WorldView, kept_of}
-use Rattle.links.specs.declared.name.LinkName.{LinkName}
 use Rattle.links.specs.declared.name.Node.TheVariants as wire_node
+use Rattle.links.specs.declared.port.Port.{Port}
 use Rattle.links.specs.Each.{Both}
-use Rattle.links.specs.Queues.{bytes_of, packet_on, taken_from}
-use Rattle.kept_laws.specs.Kept.{client_acted, stamp_at}
+use Rattle.links.specs.Queues.{bytes_of, packet_in, stamp_of, taken_in}
+use Rattle.wire_ends.specs.declared.packet.WirePacket.{WirePacket}
+use Rattle.kept_laws.specs.Kept.{client_acted}
 use Rattle.kept_laws.specs.Standing.{limit_of}
 use Rattle.world.specs.declared.fault.RunFault.{RunFault}
 use Rattle.world.specs.declared.fault.RunFault.TheVariants as fault
@@ -35,16 +37,16 @@ pub data ClientDone (c : ℕ) (p : PreparedClient) (old new : WorldView) (r : Re
 
 -- client c did what the next packet of a link says, which still is there; whatever the packet stands for, it is the machine's get.
 -- took says whether there was one
-pub record IsGot (names : List (List ℕ)) (d : Declared) (c : ℕ) (link : LinkName) (old new : WorldView) (took : Bool) : Type 0 where
-  pub client : (v : Option Packet) → Both (StandsForPacket names) (packet_on old.links (Some link)) v → new.clients ≡ slice_set old.clients c (get d (client_in old.clients c) v).client
-  pub idle : (v : Option Packet) → Both (StandsForPacket names) (packet_on old.links (Some link)) v → not took ≡ (get d (client_in old.clients c) v).idle
+pub record IsGot (names : List (List ℕ)) (d : Declared) (c : ℕ) (next : Option WirePacket) (old new : WorldView) (took : Bool) : Type 0 where
+  pub client : (v : Option Packet) → Both (StandsForPacket names) next v → new.clients ≡ slice_set old.clients c (get d (client_in old.clients c) v).client
+  pub idle : (v : Option Packet) → Both (StandsForPacket names) next v → not took ≡ (get d (client_in old.clients c) v).idle
   pub rest : new ≡ record old { clients = new.clients }
 
 -- and then the packet is taken, and the event counted, or the idle one
-abbrev pub after_got : ℕ → LinkName → Bool → WorldView → WorldView
-after_got c link true b = record b {
-  links = taken_from (Some link) b.links;
-  client_clocks = slice_set b.client_clocks c (stamp_at b.client_clocks c b.links (Some link));
+abbrev pub after_got : ℕ → Port → Bool → WorldView → WorldView
+after_got c takes true b = record b {
+  links = taken_in takes b.links;
+  client_clocks = slice_set b.client_clocks c (stamp_over b.client_clocks c (stamp_of (packet_in b.links takes)));
   events = b.events + 1;
 }
-after_got c link false b = record b { idle = b.idle + 1 }
+after_got c takes false b = record b { idle = b.idle + 1 }

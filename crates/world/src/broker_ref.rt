@@ -1,21 +1,22 @@
-//! Which broker an event is of, and which link it takes from.
-ghost use Rattle.std.specs.Prelude.{◌≡◌, None, Some};
+//! Which broker an event is of, and the link that it takes from.
+ghost use Rattle.std.specs.Prelude.{◌≡◌};
 ghost use Rattle.world.specs.Steps.{broker_ref_at};
 ghost use Rattle.script_text.specs.Scenario.{IsEvent};
-ghost use Rattle.links.specs.declared.name.LinkName.TheVariants as link;
+ghost use Rattle.kept_laws.specs.Events.{IsBrokers, cluster_of, takes_of, topic_of};
 ghost use Rattle.links.specs.declared.name.Node.TheVariants as node;
-ghost use Rattle.kept_laws.specs.Events.{IsBrokers};
 
+use crate::world::World;
 use geo_base::Event;
-use links::{LinkName, Node};
+use links::{LinkName, Node, Port};
 use script_text::Scenario;
 
-/// The broker of a topic at a cluster, and the link that its event takes from, if it takes from one.
+/// The broker of a topic at a cluster, and the link that its event takes from, as it was found in a world. A world's links stay where
+/// they are, so that it is found once in an event.
 #[derive(Clone, Copy, Drop)]
 pub struct BrokerRef {
     pub topic: u32,
     pub cluster: u32,
-    pub takes: Option<LinkName>,
+    pub takes: Port,
 }
 
 impl BrokerRef {
@@ -30,79 +31,88 @@ impl BrokerRef {
     }
 }
 
-/// The place of an event of a broker.
-pub fn broker_ref_of(scenario: &Scenario, event: &Event) -> BrokerRef
+impl World {
+    /// Finds the broker of an event, and the link that the event takes from.
+    pub fn broker_ref(&self, scenario: &Scenario, event: &Event) -> BrokerRef
+        requires broker { IsBrokers event.now }
+        requires scripted { IsEvent scenario.now.setup event.now }
+        ensures { result ≡ broker_ref_at scenario.now.setup self.now.links event.now }
+    {
+        BrokerRef {
+            topic: topic_of(scenario, event),
+            cluster: cluster_of(event),
+            takes: self.links.port(takes_of(event)),
+        }
+    }
+}
+
+/// The topic of the broker of an event.
+fn topic_of(scenario: &Scenario, event: &Event) -> u32
     requires broker { IsBrokers event.now }
     requires scripted { IsEvent scenario.now.setup event.now }
-    ensures { result ≡ broker_ref_at scenario.now.setup event.now }
+    ensures { result ≡ topic_of scenario.now.setup event.now }
 {
     match *event {
-        Event::Serve { cluster, client } => {
-            let topic = scenario.clients()[client as usize].topic();
-            taking(topic, cluster, LinkName::ToBroker { client, cluster })
+        Event::Serve { client, .. } | Event::Drop { client, .. } => {
+            scenario.clients()[client as usize].topic()
         }
-        Event::Drop { cluster, client } => at(scenario.clients()[client as usize].topic(), cluster),
+        Event::Take { topic, .. }
+        | Event::Receipt { topic, .. }
+        | Event::Reset { topic, .. }
+        | Event::Read { topic, .. }
+        | Event::Snap { topic, .. }
+        | Event::Offer { topic, .. }
+        | Event::Seek { topic, .. }
+        | Event::Restart { topic, .. } => topic,
+        Event::Go { .. } | Event::Get { .. } | Event::Reconnect { .. } => unreachable!(),
+    }
+}
+
+/// The cluster of the broker of an event.
+fn cluster_of(event: &Event) -> u32
+    requires { IsBrokers event.now }
+    ensures { result ≡ cluster_of event.now }
+{
+    match *event {
+        Event::Take { target, .. } => target,
+        Event::Receipt { source, .. } | Event::Reset { source, .. } | Event::Read { source, .. } =>
+            source,
+        Event::Serve { cluster, .. }
+        | Event::Drop { cluster, .. }
+        | Event::Snap { cluster, .. }
+        | Event::Offer { cluster, .. }
+        | Event::Seek { cluster, .. }
+        | Event::Restart { cluster, .. } => cluster,
+        Event::Go { .. } | Event::Get { .. } | Event::Reconnect { .. } => unreachable!(),
+    }
+}
+
+/// The link that an event of a broker takes from, if it takes from one.
+fn takes_of(event: &Event) -> Option<LinkName>
+    ensures { result ≡ takes_of event.now }
+{
+    match *event {
+        Event::Serve { cluster, client } => Some(LinkName::ToBroker { client, cluster }),
         Event::Take {
             topic,
             source,
             target,
             ..
-        } => taking(topic, target, forward(topic, source, target)),
+        } => Some(LinkName::Forward {
+            topic,
+            source,
+            target,
+        }),
         Event::Receipt {
             topic,
             source,
             target,
             ..
-        } => taking(topic, source, back(topic, source, target)),
-        Event::Reset { topic, source, .. } | Event::Read { topic, source, .. } => at(topic, source),
-        Event::Snap { topic, cluster }
-        | Event::Offer { topic, cluster, .. }
-        | Event::Seek { topic, cluster, .. }
-        | Event::Restart { topic, cluster } => at(topic, cluster),
-        Event::Go { .. } | Event::Get { .. } | Event::Reconnect { .. } => unreachable!(),
-    }
-}
-
-/// The link from a cluster's broker to another's.
-fn forward(topic: u32, source: u32, target: u32) -> LinkName
-    ensures { result ≡ link.Forward topic source target }
-{
-    LinkName::Forward {
-        topic,
-        source,
-        target,
-    }
-}
-
-/// The link on which the answers come back.
-fn back(topic: u32, source: u32, target: u32) -> LinkName
-    ensures { result ≡ link.Back topic source target }
-{
-    LinkName::Back {
-        topic,
-        source,
-        target,
-    }
-}
-
-/// An event that takes from a link.
-fn taking(topic: u32, cluster: u32, link: LinkName) -> BrokerRef
-    ensures { result ≡ record { topic = topic; cluster = cluster; takes = Some link } }
-{
-    BrokerRef {
-        topic,
-        cluster,
-        takes: Some(link),
-    }
-}
-
-/// An event that takes from no link.
-fn at(topic: u32, cluster: u32) -> BrokerRef
-    ensures { result ≡ record { topic = topic; cluster = cluster; takes = None } }
-{
-    BrokerRef {
-        topic,
-        cluster,
-        takes: None,
+        } => Some(LinkName::Back {
+            topic,
+            source,
+            target,
+        }),
+        _ => None,
     }
 }

@@ -4,24 +4,23 @@ ghost use Rattle.broker_state.specs.Plan.{IsEmptyPlan};
 ghost use Rattle.geo_base.specs.Happening.{happens};
 ghost use Rattle.geo_base.specs.World.{World as Machine};
 ghost use Rattle.world.specs.declared.fault.RunFault.TheVariants as fault;
-ghost use Rattle.world.specs.Steps.{Acts, IsCommitted, IsFinished, IsLater, IsSetNode, Leads, PreparesAt, Waits, done_at, broker_ref_at};
+ghost use Rattle.world.specs.Steps.{Acts, IsCommitted, IsFinished, IsLater, IsSetNode, Leads, PreparesAt, Waits, broker_ref_at, done_at, stamp_over};
 ghost use Rattle.world.specs.World.{AreNodes, IsAt, IsWithin, SameWorld, kept_of, node_at};
 ghost use Rattle.script_text.specs.Scenario.{IsEvent};
 ghost use Rattle.broker.specs.Events.{IsOfNode, NumbersRise};
 ghost use Rattle.broker.specs.Node.{IsReady};
-ghost use Rattle.links.specs.Queues.{bytes_of, delivered, taken_from};
+ghost use Rattle.links.specs.Queues.{bytes_of, delivered, packet_in, stamp_of};
 ghost use Rattle.kept_laws.specs.Events.{IsBrokers};
-ghost use Rattle.kept_laws.specs.Kept.{stamp_at};
 ghost use Rattle.kept_laws.specs.Standing.{Stands, limit_of};
 ghost use Rattle.kept_laws.specs.Reached.{Reached};
 
-use crate::broker_ref::{BrokerRef, broker_ref_of};
+use crate::broker_ref::BrokerRef;
 use crate::fault::RunFault;
 use crate::world::World;
 use broker_state::Plan;
 use geo_base::limits::{EVENTS, SENT_BYTES};
 use geo_base::{Event, Memory, Stamp, WireOut};
-use links::{LinkName, Links, Node, frame_bytes};
+use links::{Node, Port, frame_bytes};
 use script_text::Scenario;
 use std::alloc::Global;
 use std::boxed::Box;
@@ -73,7 +72,7 @@ impl World {
         ensures idle { result ≡ Ok false → SameWorld self.old self.new }
         ensures err { OnErr result (SameWorld self.old self.new) }
     {
-        let broker_ref = broker_ref_of(scenario, event);
+        let broker_ref = self.broker_ref(scenario, event);
         if self.is_waiting(broker_ref.takes) {
             return Ok(false);
         }
@@ -104,10 +103,10 @@ impl World {
 
     /// Whether an event takes a packet and there is none, so that it is not enabled.
     #[tactic(auto, using(crate::proofs::Waiting::waits_there))]
-    pub(crate) fn is_waiting(&self, takes: Option<LinkName>) -> bool
+    pub(crate) fn is_waiting(&self, takes: Port) -> bool
         ensures { result ≡ true → Waits self.now takes }
     {
-        if takes.is_none() {
+        if takes.link.is_none() {
             return false;
         }
         match self.links.next(takes) {
@@ -128,7 +127,7 @@ impl World {
         requires at { IsAt scenario.now.setup self.old }
         requires broker { IsBrokers event.now }
         requires scripted { IsEvent scenario.now.setup event.now }
-        requires broker_ref { broker_ref ≡ broker_ref_at scenario.now.setup event.now }
+        requires broker_ref { broker_ref ≡ broker_ref_at scenario.now.setup self.old.links event.now }
         requires empty { IsEmptyPlan plan.old }
         ensures acts { (w : Machine) → Reached scenario.now.setup w → Stands scenario.now.setup (kept_of self.old) w
             → Acts scenario.now.setup self.old self.new (happens scenario.now.setup w event.now) result }
@@ -153,14 +152,14 @@ impl World {
         alloc: Global,
         number: usize,
         event: &Event,
-        takes: Option<LinkName>,
+        takes: Port,
         plan: &mut Plan,
     ) -> Result<(), Memory>
         requires node { number < length self.old.brokers }
         requires of { IsOfNode (node_at self.old.brokers number) event.now }
         requires numbers { NumbersRise (node_at self.old.brokers number) event.now }
         requires empty { IsEmptyPlan plan.old }
-        ensures prepared { OnOk result (PreparesAt self.old number takes event.now plan.new) }
+        ensures prepared { OnOk result (PreparesAt self.old number (packet_in self.old.links takes) event.now plan.new) }
         ensures ready { OnOk result (IsReady (node_at self.new.brokers number) plan.new) }
         ensures same { SameWorld self.old self.new }
         ensures err { OnErr result (IsEmptyPlan plan.new) }
@@ -199,14 +198,14 @@ impl World {
         requires clock { number < length self.old.broker_clocks }
         requires ready { IsReady (node_at self.old.brokers number) plan.old }
         requires within { IsWithin self.old }
-        requires stamp { stamp_at self.old.broker_clocks number self.old.links broker_ref.takes < 2 ^ 64 }
+        requires stamp { stamp_over self.old.broker_clocks number (stamp_of (packet_in self.old.links broker_ref.takes)) < 2 ^ 64 }
         ensures ok { OnOk result (IsFinished broker_ref number plan.old self.old self.new) }
         ensures within { OnOk result (limit_of (self.old.events + 1) self.old.idle (self.old.frame_bytes + bytes_of plan.old.sent) ≡ None) }
         ensures large { (n : ℕ) → result ≡ Err (fault.TooLarge n) → limit_of (self.old.events + 1) self.old.idle (self.old.frame_bytes + bytes_of plan.old.sent) ≡ Some n }
         ensures err { OnErr result (self.new ≡ self.old) }
         ensures empty { OnOk result (IsEmptyPlan plan.new) }
     {
-        let stamp = self.stamp_at(number, broker_ref.takes);
+        let stamp = self.stamp_at(number, self.links.stamp(broker_ref.takes));
         self.send_at(alloc, broker_ref.sender(), stamp, plan)?;
         self.commit_at(broker_ref, number, plan, stamp);
         Ok(())
@@ -270,7 +269,7 @@ impl World {
         ensures rest { IsCommitted broker_ref number stamp self.old self.new }
         ensures empty { IsEmptyPlan plan.new }
     {
-        take_from(&mut self.links, broker_ref.takes);
+        let _taken = self.links.take(broker_ref.takes);
         self.brokers[number].commit(plan);
         self.broker_clocks[number] = stamp;
         self.counts.events += 1;
@@ -294,24 +293,12 @@ impl World {
         Ok(self.counts.frame_bytes + more)
     }
 
-    /// The stamp of an event at a broker: 1 plus the greater of its last one and that of the packet that it takes.
-    fn stamp_at(&self, number: usize, takes: Option<LinkName>) -> u64
+    /// The stamp of an event at a broker: 1 plus the greater of its last one and that of the packet that it takes, 0 where it takes none.
+    fn stamp_at(&self, number: usize, taken: u64) -> u64
         requires clock { number < length self.now.broker_clocks }
-        requires fits { stamp_at self.now.broker_clocks number self.now.links takes < 2 ^ 64 }
-        ensures { result ≡ stamp_at self.now.broker_clocks number self.now.links takes }
+        requires fits { stamp_over self.now.broker_clocks number taken < 2 ^ 64 }
+        ensures { result ≡ stamp_over self.now.broker_clocks number taken }
     {
-        if takes.is_none() {
-            return 1 + self.broker_clocks[number];
-        }
-        1 + self.broker_clocks[number].max(self.links.stamp(takes))
-    }
-}
-
-/// Takes the packet that an event takes. Most take none, for which no link is asked.
-fn take_from(links: &mut Links, takes: Option<LinkName>)
-    ensures { links.new ≡ taken_from takes links.old }
-{
-    if takes.is_some() {
-        let _taken = links.take(takes);
+        1 + self.broker_clocks[number].max(taken)
     }
 }

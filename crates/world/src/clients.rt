@@ -6,7 +6,7 @@ ghost use Rattle.geo_base.specs.Happening.{happens};
 ghost use Rattle.geo_base.specs.World.{World as Machine};
 ghost use Rattle.world.specs.ClientSteps.{ClientDone, IsSent, client_in};
 ghost use Rattle.world.specs.declared.fault.RunFault.TheVariants as fault;
-ghost use Rattle.world.specs.Steps.{Leads};
+ghost use Rattle.world.specs.Steps.{Leads, stamp_over};
 ghost use Rattle.world.specs.World.{AreNodes, IsAt, IsWithin, kept_of};
 ghost use Rattle.links.specs.Queues.{bytes_of};
 ghost use Rattle.kept_laws.specs.Kept.{stamp_at};
@@ -16,10 +16,13 @@ ghost use Rattle.kept_laws.specs.Reached.{Reached};
 use crate::fault::RunFault;
 use crate::world::World;
 use client::Prepared;
-use links::{LinkName, Node};
+use links::Node;
 use node_starts::site_of;
 use script_text::Scenario;
 use std::alloc::Global;
+
+/// The stamp that an event sees which takes no packet, as `Links::stamp` answers it.
+const NOTHING_TAKEN: u64 = 0;
 
 impl World {
     /// A client does what its next line says, or can't yet.
@@ -102,7 +105,7 @@ impl World {
     {
         let mut prepared = prepared;
         let mut sent = prepared.take_sent(alloc);
-        let stamp = self.client_stamp(client, None);
+        let stamp = self.client_stamp(client, NOTHING_TAKEN);
         match self.deliver(Node::Client { client }, stamp, &mut sent) {
             Ok(()) => {
                 self.client_commits(client, prepared, stamp);
@@ -132,12 +135,12 @@ impl World {
         self.counts.events += 1;
     }
 
-    /// The stamp of an event at a client: 1 plus the greater of its last one and that of the packet that it takes.
-    pub(crate) fn client_stamp(&self, client: u32, takes: Option<LinkName>) -> u64
+    /// The stamp of an event at a client: 1 plus the greater of its last one and that of the packet that it takes, 0 where it takes none.
+    pub(crate) fn client_stamp(&self, client: u32, taken: u64) -> u64
         requires clock { client < length self.now.client_clocks }
-        requires fits { stamp_at self.now.client_clocks client self.now.links takes < 2 ^ 64 }
-        ensures { result ≡ stamp_at self.now.client_clocks client self.now.links takes }
+        requires fits { stamp_over self.now.client_clocks client taken < 2 ^ 64 }
+        ensures { result ≡ stamp_over self.now.client_clocks client taken }
     {
-        1 + self.client_clocks[client as usize].max(self.links.stamp(takes))
+        1 + self.client_clocks[client as usize].max(taken)
     }
 }

@@ -7,18 +7,18 @@ ghost use Rattle.world.specs.declared.fault.RunFault.TheVariants as fault;
 ghost use Rattle.world.specs.Steps.{IsHalted, IsStopped, Leads};
 ghost use Rattle.world.specs.World.{IsAt, IsWithin, SameWorld, kept_of, node_at};
 ghost use Rattle.script_text.specs.Scenario.{IsEvent};
+ghost use Rattle.links.specs.Queues.{packet_in};
 ghost use Rattle.broker.specs.Events.{IsOfNode, NumbersRise};
 ghost use Rattle.kept_laws.specs.Events.{IsBrokers};
 ghost use Rattle.kept_laws.specs.Standing.{Stands, limit_of};
 ghost use Rattle.kept_laws.specs.Reached.{Reached};
 
-use crate::broker_ref::broker_ref_of;
 use crate::brokers::EVENT_LIMIT;
 use crate::fault::RunFault;
 use crate::world::{World, node_number};
 use geo_base::limits::EVENTS;
 use geo_base::{Event, Memory};
-use links::LinkName;
+use links::Port;
 use script_text::Scenario;
 use std::alloc::Global;
 
@@ -41,7 +41,7 @@ impl World {
         ensures at { IsAt scenario.now.setup self.new }
         ensures err { OnErr result (SameWorld self.old self.new) }
     {
-        let broker_ref = broker_ref_of(scenario, event);
+        let broker_ref = self.broker_ref(scenario, event);
         let number = node_number(scenario, broker_ref.topic, broker_ref.cluster);
         self.one_more()?;
         self.stop_at(alloc, number, writes, event, broker_ref.takes)?;
@@ -70,7 +70,7 @@ impl World {
         number: usize,
         writes: u32,
         event: &Event,
-        takes: Option<LinkName>,
+        takes: Port,
     ) -> Result<(), Memory>
         requires node { number < length self.old.brokers }
         requires of { IsOfNode (node_at self.old.brokers number) event.now }
@@ -93,12 +93,12 @@ impl World {
         number: usize,
         writes: u32,
         event: &Event,
-        takes: Option<LinkName>,
+        takes: Port,
     ) -> Result<(), Memory>
         requires node { number < length self.old.brokers }
         requires of { IsOfNode (node_at self.old.brokers number) event.now }
         requires numbers { NumbersRise (node_at self.old.brokers number) event.now }
-        ensures ok { OnOk result (IsHalted number takes event.now writes self.old self.new) }
+        ensures ok { OnOk result (IsHalted number (packet_in self.old.links takes) event.now writes self.old self.new) }
         ensures err { OnErr result (SameWorld self.old self.new) }
     {
         self.brokers[number].halt(alloc, writes, event, self.links.next(takes))

@@ -34,7 +34,7 @@ impl World {
         requires at { IsAt scenario.now.setup self.old }
         requires broker { IsBrokers event.now }
         requires scripted { IsEvent scenario.now.setup event.now }
-        requires broker_ref { broker_ref ≡ broker_ref_at scenario.now.setup event.now }
+        requires broker_ref { broker_ref ≡ broker_ref_at scenario.now.setup self.old.links event.now }
         requires empty { IsEmptyPlan plan.old }
         ensures ready { result ≡ Ok true → IsHalfDone scenario.now.setup self.new event.now plan.new }
         ensures idle { (w : Machine) → Reached scenario.now.setup w → Stands scenario.now.setup (kept_of self.old) w
@@ -64,7 +64,7 @@ impl World {
         requires at { IsAt scenario.now.setup self.old }
         requires broker { IsBrokers event.now }
         requires scripted { IsEvent scenario.now.setup event.now }
-        requires broker_ref { broker_ref ≡ broker_ref_at scenario.now.setup event.now }
+        requires broker_ref { broker_ref ≡ broker_ref_at scenario.now.setup self.old.links event.now }
         requires empty { IsEmptyPlan plan.old }
         ensures ready { result ≡ Ok true → IsHalfDone scenario.now.setup self.new event.now plan.new }
         ensures idle { (w : Machine) → Reached scenario.now.setup w → Stands scenario.now.setup (kept_of self.old) w
@@ -98,7 +98,7 @@ impl World {
         requires at { IsAt scenario.now.setup self.old }
         requires broker { IsBrokers event.now }
         requires scripted { IsEvent scenario.now.setup event.now }
-        requires broker_ref { broker_ref ≡ broker_ref_at scenario.now.setup event.now }
+        requires broker_ref { broker_ref ≡ broker_ref_at scenario.now.setup self.old.links event.now }
         requires ready { IsHalfDone scenario.now.setup self.old event.now plan.old }
         ensures acts { (w : Machine) → Reached scenario.now.setup w → Stands scenario.now.setup (kept_of self.old) w
             → Acts scenario.now.setup self.old self.new (happens scenario.now.setup w event.now) (enabled result) }
@@ -131,7 +131,7 @@ impl World {
         requires at { IsAt scenario.now.setup self.old }
         requires broker { IsBrokers event.now }
         requires scripted { IsEvent scenario.now.setup event.now }
-        requires broker_ref { broker_ref ≡ broker_ref_at scenario.now.setup event.now }
+        requires broker_ref { broker_ref ≡ broker_ref_at scenario.now.setup self.old.links event.now }
         requires empty { IsEmptyPlan plan.old }
         ensures foreseen { OnOk result ((w : Machine) → Reached scenario.now.setup w → Stands scenario.now.setup (kept_of self.new) w
             → IsForeseen scenario.now.setup w event.now (node_at self.new.brokers (node_of scenario.now.setup event.now)) plan.new) }

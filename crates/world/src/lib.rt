@@ -22,7 +22,7 @@ mod settling_events;
 mod stops;
 mod world;
 
-pub use broker_ref::{BrokerRef, broker_ref_of};
+pub use broker_ref::BrokerRef;
 pub use fault::RunFault;
 pub use observer::{Observer, Unobserved};
 pub use world::World;

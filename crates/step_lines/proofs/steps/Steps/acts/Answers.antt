@@ -14,7 +14,7 @@ use Rattle.step_lines.proofs.Told.{acted, from_same, from_text, never_answered, 
 use Rattle.world.specs.Foreseen.{IsHalfDone}
 use Rattle.world.specs.World.{node_at}
 use Rattle.kept_laws.specs.Events.{node_of}
-use Rattle.world.proofs.Acting.{acts_from, acts_wants, later_from, later_same, never_idle, same_both, stands_from}
+use Rattle.world.proofs.Acting.{acts_from, acts_wants, broker_of, later_from, later_same, never_idle, ref_same, same_both, stands_from}
 use Rattle.step_lines.proofs.steps.Steps.acts.Goals as goal
 
 abbrev answered : Bool → Result Bool Memory
@@ -56,7 +56,7 @@ note-requires c =
       at = c.prepare.ensures.at;
       broker = c.requires.broker;
       scripted = c.requires.scripted;
-      broker_ref = c.broker_ref_of-broker_ref.ensures;
+      broker_ref = broker_of c.args.scenario.now.setup c.args.world.now.links c.args.event.now c.broker_ref-broker_ref.result c.broker_ref-broker_ref.ensures;
       backlogs = same_known c.args.self.now.backlogs c.args.world.now c.prepare.new.self c.prepare.ensures.same c.requires.backlogs;
     }
 
@@ -81,7 +81,7 @@ follow-requires c =
       at = c.prepare.ensures.at;
       broker = c.requires.broker;
       scripted = c.requires.scripted;
-      broker_ref = c.broker_ref_of-broker_ref.ensures;
+      broker_ref = broker_of c.args.scenario.now.setup c.args.world.now.links c.args.event.now c.broker_ref-broker_ref.result c.broker_ref-broker_ref.ensures;
       has = c.in_ok-note.ensures.has;
       backlogs = c.in_ok-note.ensures.backlogs;
     }
@@ -108,7 +108,7 @@ finish-requires c =
       at = c.prepare.ensures.at;
       broker = c.requires.broker;
       scripted = c.requires.scripted;
-      broker_ref = c.broker_ref_of-broker_ref.ensures;
+      broker_ref = ref_same c.args.scenario.now.setup c.args.world.now c.prepare.new.self c.args.event.now c.broker_ref-broker_ref.result c.prepare.ensures.same c.broker_ref-broker_ref.ensures;
       ready = subst (λ (p : PlanView). IsHalfDone c.args.scenario.now.setup c.prepare.new.self c.args.event.now p) (sym (c.follow.ensures.plan ∙ c.note.ensures.plan)) half;
     }
 
@@ -141,7 +141,7 @@ tell_event-requires c =
       knows = from_same s c.args.self.now.telling c.follow.new.self.telling (c.follow.ensures.telling ∙ c.note.ensures.telling) c.requires.knows;
       broker = c.requires.broker;
       scripted = c.requires.scripted;
-      broker_ref = c.broker_ref_of-broker_ref.ensures;
+      broker_ref = broker_of c.args.scenario.now.setup c.args.world.now.links c.args.event.now c.broker_ref-broker_ref.result c.broker_ref-broker_ref.ensures;
       noted =
           ap (λ (k : NotedBroker). length k.replicators.items) c.follow.ensures.noted
           ∙ seen_many r (length s.clusters) b c.note.new.self.noted c.in_ok-note.ensures.noted;

@@ -1,8 +1,7 @@
-use Rattle.std.proofs.Common.{ℕ, ◌<◌, ap, length, subst, sym}
+use Rattle.std.proofs.Common.{ℕ, ◌<◌, length, subst, sym}
 use Rattle.step_lines.specs.Backlogs.{TellsBacklogs, known_at}
 use Rattle.step_lines.proofs.Following.{follows_there, number_there, rests_there, tells_there}
 use Rattle.step_lines.proofs.Told.{place_there}
-use Rattle.world.specs.declared.broker_ref.BrokerRef.{BrokerRef}
 use Rattle.world.proofs.Places.{cluster_below, topic_below}
 use Rattle.world.specs.World.{node_at}
 use Rattle.kept_laws.specs.Events.{node_of}
@@ -13,16 +12,16 @@ topic-broker-requires c =
     let s = c.args.scenario.now.setup in let e = c.args.event.now in
     record {
       brokers = c.requires.at.brokers;
-      topic = topic_below s c.args.world.now e c.args.broker_ref.topic c.requires.at c.requires.broker c.requires.scripted (ap (λ (p : BrokerRef). p.topic) c.requires.broker_ref);
-      cluster = cluster_below s e c.args.broker_ref.cluster c.requires.broker c.requires.scripted (ap (λ (p : BrokerRef). p.cluster) c.requires.broker_ref);
+      topic = topic_below s c.args.world.now e c.args.broker_ref.topic c.requires.at c.requires.broker c.requires.scripted c.requires.broker_ref.topic;
+      cluster = cluster_below s e c.args.broker_ref.cluster c.requires.broker c.requires.scripted c.requires.broker_ref.cluster;
     }
 
 pub number_of-number-requires : goal.number_of-number-requires
 number_of-number-requires c =
     let s = c.args.scenario.now.setup in let e = c.args.event.now in
     record {
-      topic = topic_below s c.args.world.now e c.args.broker_ref.topic c.requires.at c.requires.broker c.requires.scripted (ap (λ (p : BrokerRef). p.topic) c.requires.broker_ref);
-      cluster = cluster_below s e c.args.broker_ref.cluster c.requires.broker c.requires.scripted (ap (λ (p : BrokerRef). p.cluster) c.requires.broker_ref);
+      topic = topic_below s c.args.world.now e c.args.broker_ref.topic c.requires.at c.requires.broker c.requires.scripted c.requires.broker_ref.topic;
+      cluster = cluster_below s e c.args.broker_ref.cluster c.requires.broker c.requires.scripted c.requires.broker_ref.cluster;
     }
 
 pub follow-requires : goal.follow-requires

@@ -5,7 +5,6 @@ use Rattle.step_lines.proofs.Following.{asked_known, number_there, tells_there}
 use Rattle.std.specs.Prelude.{OnOk}
 use Rattle.step_lines.specs.Resting.{IsSeen}
 use Rattle.step_lines.proofs.Told.{always, noted_there, place_there}
-use Rattle.world.specs.declared.broker_ref.BrokerRef.{BrokerRef}
 use Rattle.world.proofs.Places.{cluster_below, topic_below}
 use Rattle.world.specs.World.{node_at}
 use Rattle.kept_laws.specs.Events.{node_of}
@@ -16,8 +15,8 @@ topic-broker-requires c =
     let s = c.args.scenario.now.setup in let e = c.args.event.now in
     record {
       brokers = c.requires.at.brokers;
-      topic = topic_below s c.args.world.now e c.args.broker_ref.topic c.requires.at c.requires.broker c.requires.scripted (ap (λ (p : BrokerRef). p.topic) c.requires.broker_ref);
-      cluster = cluster_below s e c.args.broker_ref.cluster c.requires.broker c.requires.scripted (ap (λ (p : BrokerRef). p.cluster) c.requires.broker_ref);
+      topic = topic_below s c.args.world.now e c.args.broker_ref.topic c.requires.at c.requires.broker c.requires.scripted c.requires.broker_ref.topic;
+      cluster = cluster_below s e c.args.broker_ref.cluster c.requires.broker c.requires.scripted c.requires.broker_ref.cluster;
     }
 
 pub returns-then-self-clause-noted : goal.returns-then-self-clause-noted
@@ -37,8 +36,8 @@ pub number_of-number-requires : goal.number_of-number-requires
 number_of-number-requires c =
     let s = c.args.scenario.now.setup in let e = c.args.event.now in
     record {
-      topic = topic_below s c.args.world.now e c.args.broker_ref.topic c.requires.at c.requires.broker c.requires.scripted (ap (λ (p : BrokerRef). p.topic) c.requires.broker_ref);
-      cluster = cluster_below s e c.args.broker_ref.cluster c.requires.broker c.requires.scripted (ap (λ (p : BrokerRef). p.cluster) c.requires.broker_ref);
+      topic = topic_below s c.args.world.now e c.args.broker_ref.topic c.requires.at c.requires.broker c.requires.scripted c.requires.broker_ref.topic;
+      cluster = cluster_below s e c.args.broker_ref.cluster c.requires.broker c.requires.scripted c.requires.broker_ref.cluster;
     }
 
 pub know-requires : goal.know-requires

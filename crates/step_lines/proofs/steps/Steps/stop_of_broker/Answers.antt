@@ -1,8 +1,7 @@
-use Rattle.std.proofs.Common.{◌≡◌, ℕ, ◌<◌, Ok, false, ap, length, subst, sym}
+use Rattle.std.proofs.Common.{◌≡◌, ℕ, ◌<◌, Ok, false, length, subst, sym}
 use Rattle.step_lines.specs.Backlogs.{SameOthers, known_at}
 use Rattle.step_lines.proofs.Following.{halt_known, never_rests, number_there}
 use Rattle.world.proofs.Places.{cluster_below, topic_below}
-use Rattle.world.specs.declared.broker_ref.BrokerRef.{BrokerRef}
 use Rattle.std.proofs.lemmas.Bool.{false≢true}
 use Rattle.std.proofs.lemmas.Result.{err_from_is_err_and}
 use Rattle.step_lines.specs.declared.heads.Indent.TheVariants as indent
@@ -11,12 +10,13 @@ use Rattle.step_lines.proofs.Resting.{may_rest, seen_many}
 use Rattle.step_lines.proofs.Told.{from_same, from_text, halted, wants_no_limit}
 use Rattle.world.specs.World.{node_at}
 use Rattle.kept_laws.specs.Events.{node_of}
+use Rattle.world.proofs.Acting.{broker_of}
 use Rattle.world.proofs.Leading.{wants}
 use Rattle.world.proofs.Observing.{past_of}
 use Rattle.step_lines.proofs.steps.Steps.stop_of_broker.Goals as goal
 
 pub note-requires : goal.note-requires
-note-requires c = record { at = c.requires.at; broker = c.requires.broker; scripted = c.requires.scripted; broker_ref = c.broker_ref_of-broker_ref.ensures; backlogs = c.requires.backlogs }
+note-requires c = record { at = c.requires.at; broker = c.requires.broker; scripted = c.requires.scripted; broker_ref = broker_of c.args.scenario.now.setup c.args.world.now.links c.args.event.now c.broker_ref-broker_ref.result c.broker_ref-broker_ref.ensures; backlogs = c.requires.backlogs }
 
 pub returns-in_err-note : goal.returns-in_err-note
 returns-in_err-note c =
@@ -45,27 +45,30 @@ returns-in_err-halt c =
 pub number_of-requires : goal.number_of-requires
 number_of-requires c =
     let s = c.args.scenario.now.setup in let e = c.args.event.now in
+    let of = broker_of s c.args.world.now.links e c.broker_ref-broker_ref.result c.broker_ref-broker_ref.ensures in
     record {
-      topic = topic_below s c.args.world.now e c.broker_ref_of-broker_ref.result.topic c.requires.at c.requires.broker c.requires.scripted (ap (λ (p : BrokerRef). p.topic) c.broker_ref_of-broker_ref.ensures);
-      cluster = cluster_below s e c.broker_ref_of-broker_ref.result.cluster c.requires.broker c.requires.scripted (ap (λ (p : BrokerRef). p.cluster) c.broker_ref_of-broker_ref.ensures);
+      topic = topic_below s c.args.world.now e c.broker_ref-broker_ref.result.topic c.requires.at c.requires.broker c.requires.scripted of.topic;
+      cluster = cluster_below s e c.broker_ref-broker_ref.result.cluster c.requires.broker c.requires.scripted of.cluster;
     }
 
 pub forget-requires : goal.forget-requires
 forget-requires c =
     let s = c.args.scenario.now.setup in let e = c.args.event.now in
-    subst (λ (n : ℕ). n < length c.note.new.self.backlogs) (sym (number_there s e c.broker_ref_of-broker_ref.result c.number_of.result c.broker_ref_of-broker_ref.ensures c.number_of.ensures))
+    let of = broker_of s c.args.world.now.links e c.broker_ref-broker_ref.result c.broker_ref-broker_ref.ensures in
+    subst (λ (n : ℕ). n < length c.note.new.self.backlogs) (sym (number_there s e c.broker_ref-broker_ref.result c.number_of.result of c.number_of.ensures))
     (c.in_ok-note.ensures.has (never_rests c.note.new.self.rests (λ is. (c.note.ensures.rests is).0)))
 
 pub tell_event-requires : goal.tell_event-requires
 tell_event-requires c =
     let s = c.args.scenario.now.setup in let e = c.args.event.now in let h = c.requires.at in
-    let there = number_there s e c.broker_ref_of-broker_ref.result c.number_of.result c.broker_ref_of-broker_ref.ensures c.number_of.ensures in
+    let of = broker_of s c.args.world.now.links e c.broker_ref-broker_ref.result c.broker_ref-broker_ref.ensures in
+    let there = number_there s e c.broker_ref-broker_ref.result c.number_of.result of c.number_of.ensures in
     record {
       at = c.halt.ensures.at;
       knows = from_same c.args.scenario.now.setup c.args.self.now.telling c.note.new.self.telling c.note.ensures.telling c.requires.knows;
       broker = c.requires.broker;
       scripted = c.requires.scripted;
-      broker_ref = c.broker_ref_of-broker_ref.ensures;
+      broker_ref = of;
       noted =
           seen_many c.note.new.self.rests (length c.args.scenario.now.setup.clusters) (node_at c.args.world.now.brokers (node_of c.args.scenario.now.setup c.args.event.now)).broker c.note.new.self.noted
           c.in_ok-note.ensures.noted;

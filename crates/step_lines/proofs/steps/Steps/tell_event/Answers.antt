@@ -8,7 +8,6 @@ use Rattle.step_lines.proofs.Resting.{as_noted, as_rests, as_replicators}
 use Rattle.std.specs.Prelude.{slice_index_or}
 use Rattle.step_lines.specs.Texts.{telling_of}
 use Rattle.step_lines.proofs.Told.{always, clusters_there, place_there, told_here}
-use Rattle.world.specs.declared.broker_ref.BrokerRef.{BrokerRef}
 use Rattle.world.proofs.Places.{cluster_below, topic_below}
 use Rattle.step_lines.proofs.steps.Steps.tell_event.Goals as goal
 
@@ -17,8 +16,8 @@ topic-broker-requires c =
     let s = c.args.scenario.now.setup in let e = c.args.event.now in
     record {
       brokers = c.requires.at.brokers;
-      topic = topic_below s c.args.world.now e c.args.broker_ref.topic c.requires.at c.requires.broker c.requires.scripted (ap (λ (p : BrokerRef). p.topic) c.requires.broker_ref);
-      cluster = cluster_below s e c.args.broker_ref.cluster c.requires.broker c.requires.scripted (ap (λ (p : BrokerRef). p.cluster) c.requires.broker_ref);
+      topic = topic_below s c.args.world.now e c.args.broker_ref.topic c.requires.at c.requires.broker c.requires.scripted c.requires.broker_ref.topic;
+      cluster = cluster_below s e c.args.broker_ref.cluster c.requires.broker c.requires.scripted c.requires.broker_ref.cluster;
     }
 
 pub returns-then-self-clause-told : goal.returns-then-self-clause-told
@@ -28,7 +27,7 @@ returns-then-self-clause-told c = λ b noted rested.
     told_here r c.args.indent s c.args.self.now.telling.names c.args.world.now e b u k _ _ (telling_of c.args.self.now.telling) (telling_of c.begin.new.self) c.add_replicator_changes.new.lines c.add_replicator_changes.result
     c.requires.knows.names c.requires.at c.requires.broker c.requires.scripted (place_there s e brokers c.args.broker_ref u c.requires.broker_ref c.topic-broker.ensures)
     c.events.ensures.events
-    (c.topic_name-topic.ensures ∙ (ap (λ (ns : List (List ℕ)). slice_index_or ns c.args.broker_ref.topic []) c.topics.ensures.names ∙ ap (λ (p : BrokerRef). slice_index_or s.topics p.topic []) c.requires.broker_ref))
+    (c.topic_name-topic.ensures ∙ (ap (λ (ns : List (List ℕ)). slice_index_or ns c.args.broker_ref.topic []) c.topics.ensures.names ∙ ap (λ (t : ℕ). slice_index_or s.topics t []) c.requires.broker_ref.topic))
     c.in_ok-begin.ensures.told
     (λ seen may.
     c.add_replicator_changes.ensures b
@@ -48,7 +47,7 @@ returns-clause-told c = λ b noted rested.
     told_here r c.args.indent s c.args.self.now.telling.names c.args.world.now e b u c.args.self.now.noted _ _ (telling_of c.args.self.now.telling) (telling_of c.begin.new.self) c.add_broker_changes.new.lines c.add_broker_changes.result
     c.requires.knows.names c.requires.at c.requires.broker c.requires.scripted (place_there s e brokers c.args.broker_ref u c.requires.broker_ref c.topic-broker.ensures)
     c.events.ensures.events
-    (c.topic_name-topic.ensures ∙ (ap (λ (ns : List (List ℕ)). slice_index_or ns c.args.broker_ref.topic []) c.topics.ensures.names ∙ ap (λ (p : BrokerRef). slice_index_or s.topics p.topic []) c.requires.broker_ref))
+    (c.topic_name-topic.ensures ∙ (ap (λ (ns : List (List ℕ)). slice_index_or ns c.args.broker_ref.topic []) c.topics.ensures.names ∙ ap (λ (t : ℕ). slice_index_or s.topics t []) c.requires.broker_ref.topic))
     c.in_ok-begin.ensures.told
     (λ seen may. c.add_broker_changes.ensures b (as_noted r (length u.site.clusters) b c.args.self.now.noted c.if-self.false seen)) noted rested
 
@@ -64,8 +63,8 @@ pub number_of-number-requires : goal.number_of-number-requires
 number_of-number-requires c =
     let s = c.args.scenario.now.setup in let e = c.args.event.now in
     record {
-      topic = topic_below s c.args.world.now e c.args.broker_ref.topic c.requires.at c.requires.broker c.requires.scripted (ap (λ (p : BrokerRef). p.topic) c.requires.broker_ref);
-      cluster = cluster_below s e c.args.broker_ref.cluster c.requires.broker c.requires.scripted (ap (λ (p : BrokerRef). p.cluster) c.requires.broker_ref);
+      topic = topic_below s c.args.world.now e c.args.broker_ref.topic c.requires.at c.requires.broker c.requires.scripted c.requires.broker_ref.topic;
+      cluster = cluster_below s e c.args.broker_ref.cluster c.requires.broker c.requires.scripted c.requires.broker_ref.cluster;
     }
 
 pub know-requires : goal.know-requires

@@ -7,7 +7,7 @@ use Rattle.broker_state.specs.Plan.{PlanView}
 use Rattle.world.specs.Foreseen.{IsHalfDone}
 use Rattle.world.specs.World.{node_at}
 use Rattle.kept_laws.specs.Events.{node_of}
-use Rattle.world.proofs.Acting.{acts_from, acts_wants, later_from, later_same, never_idle, same_both, stands_from}
+use Rattle.world.proofs.Acting.{acts_from, acts_wants, broker_of, later_from, later_same, never_idle, ref_same, same_both, stands_from}
 use Rattle.trace_runs.proofs.Growing.{happens_longer}
 use Rattle.trace_runs.proofs.Knowing.{known_on, same_known}
 use Rattle.trace_runs.proofs.ItemsTold.{event_told, rests_told}
@@ -53,7 +53,7 @@ tell_at-requires c =
       tables = same_known s c.args.self.now.telling.snapshots old mid c.prepare.ensures.same c.requires.tables;
       broker = c.requires.broker;
       scripted = c.requires.scripted;
-      broker_ref = c.broker_ref_of-broker_ref.ensures;
+      broker_ref = broker_of c.args.scenario.now.setup c.args.world.now.links c.args.event.now c.broker_ref-broker_ref.result c.broker_ref-broker_ref.ensures;
       foreseen = half.foreseen;
     }
 
@@ -78,7 +78,7 @@ finish-requires c =
       at = c.prepare.ensures.at;
       broker = c.requires.broker;
       scripted = c.requires.scripted;
-      broker_ref = c.broker_ref_of-broker_ref.ensures;
+      broker_ref = ref_same c.args.scenario.now.setup c.args.world.now c.prepare.new.self c.args.event.now c.broker_ref-broker_ref.result c.prepare.ensures.same c.broker_ref-broker_ref.ensures;
       ready = subst (λ (p : PlanView). IsHalfDone c.args.scenario.now.setup c.prepare.new.self c.args.event.now p) (sym c.tell_at.ensures.plan) half;
     }
 

@@ -2,7 +2,7 @@ use Rattle.std.proofs.Common.{refl}
 use Rattle.std.proofs.lemmas.Result.{err_from_is_err_and}
 use Rattle.world.specs.World.{node_at}
 use Rattle.kept_laws.specs.Events.{node_of}
-use Rattle.world.proofs.Acting.{stands_from}
+use Rattle.world.proofs.Acting.{broker_of, stands_from}
 use Rattle.trace_runs.proofs.Knowing.{halt_known, same_known}
 use Rattle.trace_runs.proofs.ItemsTold.{always, halt_told, leads_from, leads_wants, past_from}
 use Rattle.trace_runs.proofs.trace.Trace.stop_of_broker.Goals as goal
@@ -13,7 +13,7 @@ tell_at-requires c = record {
   tables = same_known c.args.scenario.now.setup c.args.self.now.telling.snapshots c.args.world.now c.prepare_halt.new.self c.prepare_halt.ensures.same c.requires.tables;
   broker = c.requires.broker;
   scripted = c.requires.scripted;
-  broker_ref = c.broker_ref_of-broker_ref.ensures;
+  broker_ref = broker_of c.args.scenario.now.setup c.args.world.now.links c.args.event.now c.broker_ref-broker_ref.result c.broker_ref-broker_ref.ensures;
   foreseen = c.in_ok-prepare_halt.ensures.foreseen;
 }
 

@@ -1,6 +1,5 @@
 use Rattle.std.proofs.Common.{ℕ, ap, ◌∙◌}
 use Rattle.broker.specs.Node.{BrokerView}
-use Rattle.world.specs.declared.broker_ref.BrokerRef.{BrokerRef}
 use Rattle.world.specs.World.{node_at}
 use Rattle.world.proofs.Places.{cluster_below, topic_below}
 use Rattle.kept_laws.specs.Events.{node_of}
@@ -14,8 +13,8 @@ topic-node-requires c =
     let s = c.args.scenario.now.setup in let e = c.args.event.now in
     record {
       brokers = c.requires.at.brokers;
-      topic = topic_below s c.args.world.now e c.args.broker_ref.topic c.requires.at c.requires.broker c.requires.scripted (ap (λ (p : BrokerRef). p.topic) c.requires.broker_ref);
-      cluster = cluster_below s e c.args.broker_ref.cluster c.requires.broker c.requires.scripted (ap (λ (p : BrokerRef). p.cluster) c.requires.broker_ref);
+      topic = topic_below s c.args.world.now e c.args.broker_ref.topic c.requires.at c.requires.broker c.requires.scripted c.requires.broker_ref.topic;
+      cluster = cluster_below s e c.args.broker_ref.cluster c.requires.broker c.requires.scripted c.requires.broker_ref.cluster;
     }
 
 pub tell-requires-clause-count : goal.tell-requires-clause-count

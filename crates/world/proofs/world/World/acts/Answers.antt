@@ -1,8 +1,8 @@
-use Rattle.std.proofs.Common.{sym, subst}
+use Rattle.std.proofs.Common.{ap, sym, subst, ◌∙◌}
 use Rattle.std.specs.Prelude.{OnErr}
 use Rattle.geo_base.specs.Happening.{happens}
 use Rattle.kept_laws.specs.Standing.{Stands}
-use Rattle.world.specs.Steps.{Acts, IsLater}
+use Rattle.world.specs.Steps.{Acts, IsLater, broker_ref_at}
 use Rattle.std.proofs.lemmas.Result.{err_from_is_err_and}
 use Rattle.world.specs.World.{IsAt, SameWorld, WorldView, kept_of}
 use Rattle.world.proofs.Acting.{acts_wants, later_same}
@@ -15,7 +15,7 @@ returns-then-is_waiting c =
     let b = c.args.self.now in
     record {
       acts = λ w reached stands.
-          acts_waiting c.args.scenario.now.setup b w c.args.event.now c.broker_ref_of-broker_ref.result c.requires.at c.requires.broker c.requires.scripted c.broker_ref_of-broker_ref.ensures
+          acts_waiting c.args.scenario.now.setup b w c.args.event.now c.broker_ref-broker_ref.result c.requires.at c.requires.broker c.requires.scripted c.broker_ref-broker_ref.ensures
           (c.is_waiting.ensures c.if-is_waiting.true) reached stands;
       at = c.requires.at;
       later = later_same b b (same_itself b);
@@ -54,3 +54,7 @@ returns c =
       idle = λ is. subst (λ (b : WorldView). SameWorld old b) (sym behind) (subst (λ (b : WorldView). SameWorld b new) before (acted.idle is));
       err = subst (λ (b : WorldView). OnErr r (SameWorld old b)) (sym behind) (subst (λ (b : WorldView). OnErr r (SameWorld b new)) before acted.err);
     }
+
+pub acts_in-acted-requires-clause-broker_ref : goal.acts_in-acted-requires-clause-broker_ref
+acts_in-acted-requires-clause-broker_ref c =
+    c.broker_ref-broker_ref.ensures ∙ ap (λ (b : WorldView). broker_ref_at c.args.scenario.now.setup b.links c.args.event.now) (sym c.take_plan.ensures.same)

@@ -3,7 +3,7 @@ use Rattle.std.proofs.lemmas.Result.{err_from_is_err_and}
 use Rattle.std.specs.Prelude.{Err}
 use Rattle.geo_base.specs.Happening.{happens}
 use Rattle.geo_base.specs.declared.memory.Memory.{Memory}
-use Rattle.world.proofs.Acting.{acts_from, acts_wants, later_from, later_same, never_idle, same_both, stands_from}
+use Rattle.world.proofs.Acting.{acts_from, acts_wants, later_from, later_same, never_idle, ref_same, same_both, stands_from}
 use Rattle.world.proofs.world.World.acts_in.Goals as goal
 
 abbrev answered : Bool → Result Bool Memory
@@ -40,7 +40,7 @@ finish-requires c = record {
   at = c.prepare_enabled.ensures.at;
   broker = c.requires.broker;
   scripted = c.requires.scripted;
-  broker_ref = c.requires.broker_ref;
+  broker_ref = ref_same c.args.scenario.now.setup c.args.self.now c.prepare_enabled.new.self c.args.event.now c.args.broker_ref c.prepare_enabled.ensures.same c.requires.broker_ref;
   ready = c.prepare_enabled.ensures.ready (c.in_ok-is_ready.was ∙ ap answered c.if-not-is_ready.false);
 }
 

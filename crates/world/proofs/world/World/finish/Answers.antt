@@ -1,6 +1,10 @@
-use Rattle.std.proofs.Common.{ap}
+use Rattle.std.proofs.Common.{◌<◌, ◌^◌, Option, ap, subst, sym}
+use Rattle.links.proofs.Found.{next_found}
+use Rattle.links.specs.Queues.{stamp_of}
+use Rattle.wire_ends.specs.declared.packet.WirePacket.{WirePacket}
+use Rattle.world.specs.Steps.{stamp_over}
 use Rattle.world.specs.declared.broker_ref.BrokerRef.{BrokerRef}
-use Rattle.world.proofs.Acting.{acts_done, acts_past, at_done, half_ready, halves, later_done, later_same, number_is}
+use Rattle.world.proofs.Acting.{acts_done, acts_past, at_done, found_there, half_ready, halves, later_done, later_same, number_is}
 use Rattle.world.proofs.Leading.{still_same}
 use Rattle.world.proofs.Places.{at_same, cluster_below, mid_below, mid_clock, mid_stamp, mid_within, topic_below}
 use Rattle.world.proofs.Waiting.{same_itself}
@@ -17,14 +21,15 @@ node_number-number-requires-clause-cluster c =
 pub finish_at-requires : goal.finish_at-requires
 finish_at-requires c =
     let s = c.args.scenario.now.setup in let b = c.args.self.now in let e = c.args.event.now in let n = c.node_number-number.result in let same = same_itself b in
-    let is = number_is s e c.args.broker_ref n c.requires.broker_ref c.node_number-number.ensures in
+    let is = number_is s b.links e c.args.broker_ref n c.requires.broker_ref c.node_number-number.ensures in
     record {
       node = mid_below s b b e n c.requires.at same c.requires.broker c.requires.scripted is;
       clock = mid_clock s b b e n c.requires.at same c.requires.broker c.requires.scripted is;
       ready = half_ready s b e c.args.broker_ref n c.args.plan.now
           (halves s b e c.args.broker_ref n c.args.plan.now c.requires.at c.requires.broker c.requires.scripted c.requires.broker_ref c.node_number-number.ensures c.requires.ready);
       within = mid_within s b b c.requires.at same;
-      stamp = mid_stamp s b b n c.args.broker_ref.takes c.requires.at same;
+      stamp = subst (λ (o : Option WirePacket). stamp_over b.broker_clocks n (stamp_of o) < 2 ^ 64)
+          (sym (next_found b.links c.args.broker_ref.takes (found_there s b.links e c.args.broker_ref c.requires.broker_ref))) (mid_stamp s b b n c.args.broker_ref.takes.link c.requires.at same);
     }
 
 pub returns-in-Err : goal.returns-in-Err
@@ -50,7 +55,7 @@ returns-in-Ok c =
     record {
       acts = λ w reached stands. acts_done s b new w e broker_ref n p half f.ok f.within reached stands;
       at = at_done s b new e broker_ref n p half f.ok f.within;
-      later = later_done b new broker_ref n p f.ok;
+      later = later_done s b new e broker_ref n p half f.ok;
       err = tt;
       empty = f.empty;
     }

@@ -1,6 +1,8 @@
-use Rattle.std.proofs.Common.{◌≡◌, ℕ, ◌+◌, ◌<◌, ◌≤◌, List, length, ap, subst, sym, arith}
+use Rattle.std.proofs.Common.{◌≡◌, ℕ, ◌+◌, ◌<◌, ◌≤◌, List, length, ap, subst, sym, arith, ◌∙◌}
 use Rattle.broker.proofs.Ready.{ready_without}
 use Rattle.broker.specs.Node.{BrokerView, IsReady}
+use Rattle.links.specs.Queues.{WireLinks, packet_in, stamp_of}
+use Rattle.world.specs.Steps.{stamp_over}
 use Rattle.world.specs.World.{WorldView, node_at}
 use Rattle.world.proofs.Finishing.{finished}
 use Rattle.world.proofs.world.World.finish_at.Goals as goal
@@ -22,5 +24,7 @@ commit_at-requires c =
 
 pub returns-clause-ok : goal.returns-clause-ok
 returns-clause-ok c =
+    let links : c.self.inside.links ≡ c.args.self.now.links = ap (λ (b : WorldView). b.links) c.self.view_is in
+    let stamp : c.stamp.result ≡ stamp_of (packet_in c.args.self.now.links c.args.broker_ref.takes) = c.stamp.ensures ∙ ap (λ (l : WireLinks). stamp_of (packet_in l c.args.broker_ref.takes)) links in
     finished c.args.broker_ref c.sender.result c.args.number c.stamp_at-stamp.result c.args.plan.now c.send_at.new.plan c.args.self.now c.send_at.new.self c.commit_at.new.self
-    c.sender.ensures c.stamp_at-stamp.ensures c.in_ok-send_at.ensures.sent c.in_ok-send_at.ensures.rest c.commit_at.ensures.brokers c.commit_at.ensures.rest
+    c.sender.ensures (c.stamp_at-stamp.ensures ∙ ap (λ (m : ℕ). stamp_over c.args.self.now.broker_clocks c.args.number m) stamp) c.in_ok-send_at.ensures.sent c.in_ok-send_at.ensures.rest c.commit_at.ensures.brokers c.commit_at.ensures.rest

@@ -1,12 +1,12 @@
 use Rattle.std.proofs.Common.{◌≡◌, ℕ, ◌<◌, Bool, List, length, ap, ◌∙◌, subst, sym}
 use Rattle.std.specs.Option.{option_copied}
-use Rattle.std.specs.Prelude.{Option, Some, IfOk, OnOk, not, slice_set}
+use Rattle.std.specs.Prelude.{Option, IfOk, OnOk, not, slice_set}
 use Rattle.std.proofs.lemmas.List.{get_or_default}
 use Rattle.client.specs.Packets.{StandsForNext}
 use Rattle.geo_base.specs.declared.packet.Packet.{Packet}
 use Rattle.geo_base.specs.Client.{Client}
 use Rattle.geo_base.specs.Getting.{get}
-use Rattle.links.specs.Queues.{WireLinks, packet_on}
+use Rattle.links.specs.Queues.{WireLinks, packet_in}
 use Rattle.world.specs.ClientSteps.{client_in, no_client}
 use Rattle.world.specs.World.{WorldView}
 use Rattle.world.proofs.Getting.{got}
@@ -20,7 +20,7 @@ returns-clause-ok c =
     let here : c.index_mut.result.now ≡ client_in old.clients n =
     c.index_mut.ensures.value ∙ get_or_default c.self.inside.clients.items n _ no_client within ∙ ap (λ (ms : List Client). client_in ms n) clients in
     let links : c.self.inside.links ≡ old.links = ap (λ (b : WorldView). b.links) c.self.view_is in
-    got old _ site.setup.clusters site.declared n c.args.link m r i (c.next.ensures ∙ ap (λ (l : WireLinks). packet_on l (Some c.args.link)) links)
+    got old _ site.setup.clusters site.declared n (packet_in old.links c.args.takes) m r i (c.next.ensures ∙ ap (λ (l : WireLinks). packet_in l c.args.takes) links)
     (ap (λ (b : WorldView). record b { clients = slice_set b.clients n m }) c.self.view_is)
     (subst (λ (k : Client). (v : Option Packet) → StandsForNext site.setup.clusters i v → OnOk r (m ≡ (get site.declared k v).client)) here c.get.ensures.client)
     (subst (λ (k : Client). (v : Option Packet) → StandsForNext site.setup.clusters i v → IfOk r (λ (took : Bool). not took ≡ (get site.declared k v).idle)) here c.get.ensures.took)

@@ -9,10 +9,10 @@ use Rattle.world.proofs.world.World.halt.Goals as goal
 
 pub node_number-number-requires : goal.node_number-number-requires
 node_number-number-requires c =
-    let s = c.args.scenario.now.setup in let e = c.args.event.now in let broker_ref = c.broker_ref_of-broker_ref.result in
+    let s = c.args.scenario.now.setup in let e = c.args.event.now in let broker_ref = c.broker_ref-broker_ref.result in
     record {
-      topic = topic_below s c.args.self.now e broker_ref.topic c.requires.at c.requires.broker c.requires.scripted (ap (λ (a : BrokerRef). a.topic) c.broker_ref_of-broker_ref.ensures);
-      cluster = cluster_below s e broker_ref.cluster c.requires.broker c.requires.scripted (ap (λ (a : BrokerRef). a.cluster) c.broker_ref_of-broker_ref.ensures);
+      topic = topic_below s c.args.self.now e broker_ref.topic c.requires.at c.requires.broker c.requires.scripted (ap (λ (a : BrokerRef). a.topic) c.broker_ref-broker_ref.ensures);
+      cluster = cluster_below s e broker_ref.cluster c.requires.broker c.requires.scripted (ap (λ (a : BrokerRef). a.cluster) c.broker_ref-broker_ref.ensures);
     }
 
 pub one_more-requires : goal.one_more-requires
@@ -32,7 +32,7 @@ returns-in_err-one_more c =
 pub stop_at-requires : goal.stop_at-requires
 stop_at-requires c =
     let s = c.args.scenario.now.setup in let old = c.args.self.now in let e = c.args.event.now in let n = c.node_number-number.result in
-    let number = c.node_number-number.ensures ∙ ap (λ (a : BrokerRef). node s a.topic a.cluster) c.broker_ref_of-broker_ref.ensures in
+    let number = c.node_number-number.ensures ∙ ap (λ (a : BrokerRef). node s a.topic a.cluster) c.broker_ref-broker_ref.ensures in
     record {
       node = number_below s old e n c.requires.at c.requires.broker c.requires.scripted number;
       of = number_of s old e n c.requires.at c.requires.broker c.requires.scripted number;
@@ -53,14 +53,14 @@ returns-in_err-stop_at c =
 pub returns : goal.returns
 returns c =
     let s = c.args.scenario.now.setup in let old = c.args.self.now in let new = c.stop_at.new.self in let e = c.args.event.now in
-    let broker_ref = c.broker_ref_of-broker_ref.result in let n = c.node_number-number.result in
-    let number = c.node_number-number.ensures ∙ ap (λ (a : BrokerRef). node s a.topic a.cluster) c.broker_ref_of-broker_ref.ensures in
+    let broker_ref = c.broker_ref-broker_ref.result in let n = c.node_number-number.result in
+    let number = c.node_number-number.ensures ∙ ap (λ (a : BrokerRef). node s a.topic a.cluster) c.broker_ref-broker_ref.ensures in
     record {
       leads = λ w reached stands.
-          leads_halted s old new w e broker_ref n c.args.writes tt c.requires.at c.requires.broker c.requires.scripted c.broker_ref_of-broker_ref.ensures number reached stands
+          leads_halted s old new w e broker_ref n c.args.writes tt c.requires.at c.requires.broker c.requires.scripted c.broker_ref-broker_ref.ensures number reached stands
           c.in_ok-stop_at.ensures.ok c.in_ok-one_more.ensures.within;
       at =
-          at_halted s old new e broker_ref n c.args.writes c.requires.at c.requires.broker c.requires.scripted c.broker_ref_of-broker_ref.ensures number
+          at_halted s old new e broker_ref n c.args.writes c.requires.at c.requires.broker c.requires.scripted c.broker_ref-broker_ref.ensures number
           c.in_ok-stop_at.ensures.ok c.in_ok-one_more.ensures.within;
       err = tt;
     }

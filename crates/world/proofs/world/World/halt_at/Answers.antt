@@ -5,7 +5,7 @@ use Rattle.std.proofs.lemmas.List.{get_or_default}
 use Rattle.geo_base.specs.declared.packet.Packet.{Packet}
 use Rattle.broker.specs.Input.{StandsForInput}
 use Rattle.broker.specs.Node.{BrokerView, SameNode}
-use Rattle.links.specs.Queues.{WireLinks, packet_on}
+use Rattle.links.specs.Queues.{WireLinks, packet_in}
 use Rattle.world.specs.Steps.{halted_at}
 use Rattle.world.specs.World.{WorldView, no_node, node_at}
 use Rattle.world.proofs.Halting.{halts}
@@ -19,7 +19,7 @@ returns-clause-ok c =
     let here : c.index_mut.result.now ≡ node_at old.brokers n =
     c.index_mut.ensures.value ∙ get_or_default c.self.inside.brokers.items n _ no_node within ∙ ap (λ (vs : List BrokerView). node_at vs n) brokers in
     let links : c.self.inside.links ≡ old.links = ap (λ (b : WorldView). b.links) c.self.view_is in
-    halts old _ n c.args.takes c.args.event.now c.args.writes v c.halt.result i (c.next.ensures ∙ ap (λ (l : WireLinks). packet_on l c.args.takes) links)
+    halts old _ n (packet_in old.links c.args.takes) c.args.event.now c.args.writes v c.halt.result i (c.next.ensures ∙ ap (λ (l : WireLinks). packet_in l c.args.takes) links)
     (subst (λ (u : BrokerView). SameNode u v) here c.halt.ensures.node)
     (ap (λ (b : WorldView). record b { brokers = slice_set b.brokers n v }) c.self.view_is)
     (subst (λ (u : BrokerView). (o : Option Packet) → StandsForInput u.site.clusters i o → OnOk c.halt.result (v.broker ≡ halted_at u c.args.event.now c.args.writes o))

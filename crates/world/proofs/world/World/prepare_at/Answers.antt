@@ -7,7 +7,7 @@ use Rattle.geo_base.specs.declared.packet.Packet.{Packet}
 use Rattle.broker.specs.Events.{plan_at_node}
 use Rattle.broker.specs.Input.{StandsForInput}
 use Rattle.broker.specs.Node.{BrokerView, SameNode}
-use Rattle.links.specs.Queues.{WireLinks, packet_on}
+use Rattle.links.specs.Queues.{WireLinks, packet_in}
 use Rattle.world.specs.World.{WorldView, no_node, node_at}
 use Rattle.world.proofs.Nodes.{prepares, same_world}
 use Rattle.world.proofs.world.World.prepare_at.Goals as goal
@@ -30,6 +30,6 @@ returns-clause-prepared c =
     let here : c.index_mut.result.now ≡ node_at old.brokers n =
     c.index_mut.ensures.value ∙ get_or_default c.self.inside.brokers.items n _ no_node within ∙ ap (λ (vs : List BrokerView). node_at vs n) brokers in
     let links : c.self.inside.links ≡ old.links = ap (λ (b : WorldView). b.links) c.self.view_is in
-    prepares old n c.args.takes c.args.event.now c.prepare.new.plan c.prepare.result i (c.next.ensures ∙ ap (λ (l : WireLinks). packet_on l c.args.takes) links)
+    prepares old n (packet_in old.links c.args.takes) c.args.event.now c.prepare.new.plan c.prepare.result i (c.next.ensures ∙ ap (λ (l : WireLinks). packet_in l c.args.takes) links)
     (subst (λ (u : BrokerView). (v : Option Packet) → StandsForInput u.site.clusters i v → OnOk c.prepare.result (IsPrepared u.site u.broker (plan_at_node u c.args.event.now v) c.prepare.new.plan))
     here c.prepare.ensures.prepared)

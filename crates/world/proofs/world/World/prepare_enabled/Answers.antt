@@ -16,7 +16,7 @@ node_number-number-requires-clause-cluster c =
 pub prepare_at-requires : goal.prepare_at-requires
 prepare_at-requires c =
     let s = c.args.scenario.now.setup in let b = c.args.self.now in let e = c.args.event.now in let n = c.node_number-number.result in
-    let is = number_is s e c.args.broker_ref n c.requires.broker_ref c.node_number-number.ensures in
+    let is = number_is s b.links e c.args.broker_ref n c.requires.broker_ref c.node_number-number.ensures in
     record {
       node = number_below s b e n c.requires.at c.requires.broker c.requires.scripted is;
       of = number_of s b e n c.requires.at c.requires.broker c.requires.scripted is;

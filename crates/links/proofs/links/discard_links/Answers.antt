@@ -2,7 +2,7 @@ use Rattle.std.proofs.Common.{◌∙◌, List, [], ap, arith}
 use Rattle.std.specs.Prelude.{slice_set}
 use Rattle.links.specs.Queues.{Queue}
 use Rattle.geo_base.proofs.Mapped.{all_mapped, mapped_to, set_mapped}
-use Rattle.links.proofs.table.discard_links.Goals as goal
+use Rattle.links.proofs.links.discard_links.Goals as goal
 
 pub loop-link-preserved : goal.loop-link-preserved
 loop-link-preserved c =
