@@ -3,9 +3,11 @@ ghost use Rattle.std.specs.Prelude.{◌≡◌, None, Some, IfOk};
 ghost use Rattle.std.specs.Option.{option_copied};
 ghost use Rattle.cursor_acks.specs.Ranges.{indexes_of};
 ghost use Rattle.geo_base.specs.Audit.{cause_refused, entry_by, unless_broken};
+ghost use Rattle.audit.specs.Rules.{rule_number};
 ghost use Rattle.audit.specs.Acks.{acks_refused, create_refused, delete_refused, followed, follows_all, seek_refused, told_position};
 
 use crate::named::only_position;
+use crate::rule::Rule;
 use crate::runs::{AckCause, end_by};
 use crate::topic::TopicMirror;
 use geo_base::{Cause, Content, Entry, Marker, Memory, Position, Text};
@@ -13,10 +15,10 @@ use std::alloc::Global;
 use trace_lines::AckedRanges;
 
 /// A rule that has to hold, where nothing is judged after it.
-pub fn unless_broken(rule: u32, holds: bool) -> Option<u32>
-    ensures { result ≡ unless_broken rule holds None }
+pub(crate) fn unless_broken(rule: Rule, holds: bool) -> Option<u32>
+    ensures { result ≡ unless_broken (rule_number rule) holds None }
 {
-    if holds { None } else { Some(rule) }
+    if holds { None } else { Some(rule.number()) }
 }
 
 /// An acknowledgement on a subscription, and its cause.
@@ -39,14 +41,14 @@ impl TopicMirror {
     pub fn create_refused(&self, sub: &Text) -> Option<u32>
         ensures { result ≡ create_refused self.now sub.now }
     {
-        unless_broken(7, self.sub(sub).is_none())
+        unless_broken(Rule::Subscription, self.sub(sub).is_none())
     }
 
     /// The lowest rule that a deletion breaks.
     pub fn delete_refused(&self, sub: &Text) -> Option<u32>
         ensures { result ≡ delete_refused self.now sub.now }
     {
-        unless_broken(7, self.sub(sub).is_some())
+        unless_broken(Rule::Subscription, self.sub(sub).is_some())
     }
 
     /// The lowest rule that a seek breaks.
@@ -54,9 +56,9 @@ impl TopicMirror {
         ensures { result ≡ seek_refused self.now sub.now index }
     {
         if self.sub(sub).is_none() {
-            return Some(7);
+            return Some(Rule::Subscription.number());
         }
-        unless_broken(11, index <= self.len())
+        unless_broken(Rule::Seek, index <= self.len())
     }
 
     /// The lowest rule that an acknowledgement at a cluster breaks.
@@ -70,10 +72,10 @@ impl TopicMirror {
         ensures refused { IfOk result (λ refused. refused ≡ acks_refused cluster self.old acked.entry.sub.now (indexes_of acked.entry.ranges.now) acked.entry.cause.now) }
     {
         match self.sub(acked.sub) {
-            None => return Ok(Some(7)),
+            None => return Ok(Some(Rule::Subscription.number())),
             Some(found) => {
                 if !found.may_gain(acked.ranges, self.len()) {
-                    return Ok(Some(8));
+                    return Ok(Some(Rule::Acknowledged.number()));
                 }
             }
         }
@@ -94,15 +96,15 @@ impl TopicMirror {
         match acked.cause {
             Cause::Client => Ok(None),
             Cause::Marker => Ok(unless_broken(
-                9,
+                Rule::Marker,
                 self.pass(alloc, AckCause::Markers, acked.ranges)?,
             )),
             Cause::Update(position) => {
                 let followed = self.followed(cluster, acked.sub, position);
-                Ok(unless_broken(10, self.follows(alloc, followed, acked.ranges)?))
+                Ok(unless_broken(Rule::Named, self.follows(alloc, followed, acked.ranges)?))
             }
-            Cause::Plain => Ok(Some(1)),
-            Cause::Seek => Ok(Some(1)),
+            Cause::Plain => Ok(Some(Rule::Form.number())),
+            Cause::Seek => Ok(Some(Rule::Form.number())),
         }
     }
 

@@ -14,6 +14,7 @@ use crate::covers::Pair;
 use crate::entries::is_meant_for;
 use crate::mirrors::{AllMirrors, At, cluster_count, number_of};
 use crate::named::{first_position, name_same, names_each};
+use crate::rule::Rule;
 use crate::topic::TopicMirror;
 use geo_base::{ClusterPosition, Content, Entry, Marker, Memory, Position, Text};
 use script_text::Scenario;
@@ -279,12 +280,12 @@ impl AllMirrors {
         let number = number_of(scenario, at.topic, at.cluster);
         let stored = self.topics()[number].stored();
         if !stored.is_above(position) {
-            return Ok(Some(2));
+            return Ok(Some(Rule::Position.number()));
         }
         if !stored.accepts(alloc, &entry.ident)? {
-            return Ok(Some(3));
+            return Ok(Some(Rule::Duplicate.number()));
         }
-        Ok(unless_broken(4, self.may_stand(alloc, scenario, at, entry)?))
+        Ok(unless_broken(Rule::Origin, self.may_stand(alloc, scenario, at, entry)?))
     }
 
     /// The lowest rule that an appended entry breaks by what its marker says.
@@ -303,11 +304,11 @@ impl AllMirrors {
         ensures refused { IfOk result (λ refused. refused ≡ marker_refused scenario.now.setup self.old at.topic at.cluster entry.now by.now) }
     {
         if !self.may_snapshot(alloc, scenario, at, entry)? {
-            return Ok(Some(5));
+            return Ok(Some(Rule::Snapshot.number()));
         }
         let topic = &self.topics()[number_of(scenario, at.topic, at.cluster)];
         Ok(unless_broken(
-            6,
+            Rule::Update,
             may_update(alloc, scenario, topic, at.cluster, entry, by)?,
         ))
     }

@@ -7,6 +7,7 @@ ghost use Rattle.audit.specs.declared.fault.AuditFault.TheVariants as fault;
 
 use crate::fault::AuditFault;
 use crate::mirrors::AllMirrors;
+use crate::rule::Rule;
 use crate::strictness::Strictness;
 use script_rows::{cut_at, is_word};
 use script_text::Scenario;
@@ -28,10 +29,10 @@ pub fn audit(
     ensures accepted { IfOk result (λ events. IsAccepted strictness scenario.now.setup bytes.now events) }
 {
     let Some((head, lines)) = cut_at(bytes, b'\n') else {
-        return Err(AuditFault::Rule { event: 0, rule: 1 });
+        return Err(Rule::Form.broken_after(0));
     };
     if !is_word(head, b"trace") {
-        return Err(AuditFault::Rule { event: 0, rule: 1 });
+        return Err(Rule::Form.broken_after(0));
     }
     audit_lines(alloc, scenario, strictness, lines)
 }

@@ -21,6 +21,7 @@ mod identity;
 mod lines;
 mod mirrors;
 mod named;
+mod rule;
 mod runs;
 mod same;
 mod slots;

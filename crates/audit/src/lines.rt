@@ -17,6 +17,7 @@ ghost use Rattle.audit.specs.declared.fault.AuditFault.TheVariants as fault;
 use crate::acks::{Acked, unless_broken};
 use crate::fault::AuditFault;
 use crate::mirrors::{AllMirrors, At, number_of};
+use crate::rule::Rule;
 use crate::strictness::Strictness;
 use geo_base::Memory;
 use script_rows::cut_at;
@@ -47,7 +48,7 @@ impl AllMirrors {
     fn event_refused(&self, number: u64) -> Option<u32>
         ensures { (k : Strictness) (s : Setup) → result ≡ refused_by k s self.now (Begins number) }
     {
-        unless_broken(1, is_next(self.events(), number))
+        unless_broken(Rule::Form, is_next(self.events(), number))
     }
 
     /// The lowest rule that a write breaks.
@@ -98,7 +99,7 @@ impl AllMirrors {
     {
         match written {
             Written::Appends { entry, .. } => {
-                Ok(unless_broken(12, self.may_follow(scenario, at, entry)?))
+                Ok(unless_broken(Rule::Gap, self.may_follow(scenario, at, entry)?))
             }
             Written::Creates { .. }
             | Written::Deletes { .. }
@@ -167,7 +168,7 @@ impl AllMirrors {
         ensures refused { IfOk result (λ rule. rule ≡ item_refused strictness.Plain scenario.now.setup self.old (Some (item_said line.now))) }
     {
         if !may_come(self.events(), line) {
-            return Ok(Some(1));
+            return Ok(Some(Rule::Form.number()));
         }
         match line {
             Line::Begins(number) => Ok(self.event_refused(*number)),
@@ -248,7 +249,7 @@ impl AllMirrors {
         }
         let event = self.events();
         let Some(line) = line_of(alloc, names, line)? else {
-            return Err(AuditFault::Rule { event, rule: 1 });
+            return Err(Rule::Form.broken_after(event));
         };
         self.take(alloc, scenario, strictness, line)
     }
@@ -307,7 +308,7 @@ impl AllMirrors {
         if rest.is_empty() {
             Ok(event)
         } else {
-            Err(AuditFault::Rule { event, rule: 1 })
+            Err(Rule::Form.broken_after(event))
         }
     }
 }
