@@ -15,7 +15,7 @@ from .program import ROOT
 
 WRONG_WORDS = 2
 # the record of what is claimed of a run
-PROMISES, RECORD = 'crates/geo_top/specs/Claims.antt', 'pub record HoldsOf '
+PROMISES, RECORD = 'crates/run_report/specs/Claims.antt', 'pub record HoldsOf '
 # how much of a head is printed, in sentences
 SENTENCES = 2
 

@@ -2,9 +2,9 @@
 #![tactic(auto)]
 
 ghost use Rattle.std.specs.Prelude.{◌≡◌, ◌++◌, ℕ, List, IsOkAnd, Some};
-ghost use Rattle.geo_top.specs.Claims.{HoldsWithin};
+ghost use Rattle.run_report.specs.Claims.{HoldsWithin};
 ghost use Rattle.geo_top.specs.Commands.{command_of, run_command};
-ghost use Rattle.geo_top.specs.Outputs.{report_of};
+ghost use Rattle.run_report.specs.Reports.{report_of};
 ghost use Rattle.script_text.specs.Rules.{script_of};
 
 use geo_base::Text;

@@ -9,10 +9,10 @@ use Rattle.geo_top.specs.declared.top.command.Shown.TheVariants as shown
 use Rattle.geo_top.specs.declared.top.status.Status.{Status}
 use Rattle.geo_top.specs.declared.top.status.Status.TheVariants as status
 use Rattle.geo_top.specs.Answered.{FaultCounts, IsAnswered, IsRead, OfRun}
-use Rattle.geo_top.specs.Claims.{HoldsWithin}
+use Rattle.run_report.specs.Claims.{HoldsWithin}
 use Rattle.geo_top.specs.Commands.{run_command}
-use Rattle.geo_top.specs.Headline.{IsAlwaysOnce, IsAlwaysSafe, IsAlwaysSettled}
-use Rattle.geo_top.specs.Outputs.{exceeded_limit, report_of}
+use Rattle.run_report.specs.Headline.{IsAlwaysOnce, IsAlwaysSafe, IsAlwaysSettled}
+use Rattle.run_report.specs.Reports.{exceeded_limit, report_of}
 use Rattle.geo_top.specs.Statuses.{IsMade}
 use Rattle.geo_top.proofs.SavedWith.{ok_maps}
 

@@ -25,7 +25,8 @@ use Rattle.script_text.proofs.Following.{joined}
 use Rattle.geo_top.specs.declared.top.answer.Answer.{Answer}
 use Rattle.geo_top.specs.declared.top.command.Shown.TheVariants as shown
 use Rattle.geo_top.specs.declared.top.status.Status.TheVariants as status
-use Rattle.geo_top.specs.Outputs.{answer_to, exceeded_limit, report_of, unless_exceeded}
+use Rattle.geo_top.specs.Outputs.{answer_to, unless_exceeded}
+use Rattle.run_report.specs.Reports.{exceeded_limit, report_of}
 use Rattle.live_output.specs.LiveRuns.{IsLiveRun}
 use Rattle.live_output.specs.Playing.{with_steps}
 use Rattle.geo_live.specs.LiveAnswers.{ReplaysAs}

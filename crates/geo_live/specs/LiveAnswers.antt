@@ -14,7 +14,8 @@ use Rattle.geo_top.specs.declared.top.status.Status.TheVariants as status
 use Rattle.geo_top.specs.Answered.{FaultCounts, IsPartOf, IsRead, WritesLine}
 use Rattle.geo_top.specs.Commands.{run_command}
 use Rattle.geo_top.specs.Founded.{IsSent}
-use Rattle.geo_top.specs.Outputs.{answer_to, report_of}
+use Rattle.geo_top.specs.Outputs.{answer_to}
+use Rattle.run_report.specs.Reports.{report_of}
 use Rattle.geo_top.specs.Statuses.{IsDue, IsMade, refusal_line}
 use Rattle.live_output.specs.LiveRuns.{TellsRun}
 use Rattle.live_output.specs.Playing.{with_steps}

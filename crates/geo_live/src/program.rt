@@ -6,8 +6,8 @@ ghost use Rattle.geo_live.specs.Words.{live_of};
 ghost use Rattle.geo_live.specs.declared.words.Live.{Live as Asked};
 ghost use Rattle.geo_top.specs.Answered.{IsAnswered, IsRead, OfRun};
 ghost use Rattle.geo_top.specs.Commands.{Reads, command_of};
-ghost use Rattle.geo_top.specs.Headline.{IsAlwaysOnce, IsAlwaysSafe, IsAlwaysSettled};
-ghost use Rattle.geo_top.specs.Outputs.{exceeded_limit, report_of};
+ghost use Rattle.run_report.specs.Headline.{IsAlwaysOnce, IsAlwaysSafe, IsAlwaysSettled};
+ghost use Rattle.run_report.specs.Reports.{exceeded_limit, report_of};
 
 use crate::answering::answer_from;
 use crate::words::Live;

@@ -16,24 +16,25 @@ use Rattle.geo_base.specs.Run.{run}
 use Rattle.script_text.specs.Rules.{script_of}
 use Rattle.script_text.specs.Schedule.{schedule_of}
 use Rattle.geo_top.specs.Answered.{FaultCounts, HasCause, IsAnswered, WentOut, WritesLine, no_faults}
-use Rattle.geo_top.specs.Claims.{HoldsOf, HoldsWithin}
+use Rattle.run_report.specs.Claims.{HoldsOf, HoldsWithin}
 use Rattle.geo_top.specs.Commands.{Reads}
 use Rattle.geo_top.specs.Founded.{IsFounded, IsKnown, IsReady, IsSent}
 use Rattle.geo_top.specs.Losing.{LossHolds, lost_of}
 use Rattle.geo_top.specs.OneRun.{GoesOnAlike, IsKept}
-use Rattle.geo_top.specs.Outputs.{IsAnswerFor, IsAnswerToBytes, UnlessLarge, answer_to_big, answer_to_big_steps, output_of, refused, report_of}
-use Rattle.geo_top.specs.States.{file_of, gone_on, state_of_run, stopped}
+use Rattle.geo_top.specs.Outputs.{IsAnswerFor, IsAnswerToBytes, UnlessLarge, answer_to_big, answer_to_big_steps, output_of, refused}
+use Rattle.run_report.specs.Reports.{report_of}
+use Rattle.run_report.specs.States.{file_of, gone_on, state_of_run, stopped}
 use Rattle.geo_top.specs.Statuses.{IsDue, IsMade, refusal_line}
 use Rattle.geo_top.specs.Stepped.{AreAllSaid, steps_of}
 use Rattle.geo_top.proofs.Accepted.{traced_accepted, traced_whole}
 use Rattle.geo_top.proofs.Answering.{big_is, counted, judged_whole, of_saved, of_script, ok_audited, ok_big, ok_big_steps, ok_resumed, ok_saved, LosesOn, loss_holds, ok_told, ok_told_on, safe_audited, told_loss, told_loss_on, told_loss_saved}
 use Rattle.geo_top.proofs.Causing.{IsCaused, caused, caused_made, lined}
-use Rattle.geo_top.proofs.Claims.{generated_holds, holds_of}
+use Rattle.run_report.proofs.Claims.{generated_holds, holds_of}
 use Rattle.geo_top.proofs.GoingOut.{only_answer, same_due, went, went_is, writes}
 use Rattle.geo_top.proofs.GoingOn.{goes_alike, goes_within}
 use Rattle.geo_top.proofs.Judged.{judged}
 use Rattle.geo_top.proofs.OneRun.{kept_is, losses_same, reports_same}
-use Rattle.geo_top.proofs.Quiet.{generated_quiet}
+use Rattle.run_report.proofs.Quiet.{generated_quiet}
 use Rattle.script_generator.proofs.InRange.{is_scenario}
 use Rattle.script_generator.specs.Generated.{generated_run}
 use Rattle.geo_top.proofs.SaidSteps.{all_written, script_said}

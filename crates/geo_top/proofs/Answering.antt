@@ -31,19 +31,20 @@ use Rattle.geo_top.specs.declared.top.command.Shown.TheVariants as shown
 use Rattle.geo_top.specs.declared.top.status.Status.TheVariants as status
 use Rattle.geo_top.specs.Answered.{OfSaved, OfScript}
 use Rattle.geo_top.specs.Audits.{IsAuditedSafe, audit_line}
-use Rattle.geo_top.specs.Claims.{HoldsWithin}
+use Rattle.run_report.specs.Claims.{HoldsWithin}
 use Rattle.geo_top.specs.Commands.{audit_command, lost_command, lost_on_command, resume_command, save_command, steps_command, steps_on_command, whole_command}
 use Rattle.geo_top.specs.Founded.{IsAccepted, IsFounded, IsKnown, IsKnownFor}
 use Rattle.geo_top.specs.Losing.{Declares, LossHolds, declaring, declaring_on, lost_of, lost_on, undeclared}
 use Rattle.geo_top.specs.OneRun.{IsKept, IsSavedWith, counted_on, lines_before, text_on}
-use Rattle.geo_top.specs.Outputs.{IsAnswerFor, IsAnswerToBytes, IsAnswerToFile, IsAnswerToInput, UnlessLarge, answer_to, answer_to_audited, answer_to_big, answer_to_judged, answer_to_loaded, answer_to_losing, answer_to_losing_loaded, answer_to_losing_on, answer_to_resumed, answer_to_save, answer_to_steps, answer_to_steps_on, big_steps, output_of, exceeded_limit, resumed_limit, resumed_report, summary_of, unless_exceeded}
-use Rattle.geo_top.specs.States.{file_of, state_of_run, stopped}
+use Rattle.geo_top.specs.Outputs.{IsAnswerFor, IsAnswerToBytes, IsAnswerToFile, IsAnswerToInput, UnlessLarge, answer_to, answer_to_audited, answer_to_big, answer_to_judged, answer_to_loaded, answer_to_losing, answer_to_losing_loaded, answer_to_losing_on, answer_to_resumed, answer_to_save, answer_to_steps, answer_to_steps_on, big_steps, output_of, summary_of, unless_exceeded}
+use Rattle.run_report.specs.Reports.{exceeded_limit, resumed_limit, resumed_report}
+use Rattle.run_report.specs.States.{file_of, state_of_run, stopped}
 use Rattle.geo_top.specs.Stepped.{AreAllSaidOn, steps_of, steps_on}
 use Rattle.script_generator.specs.Generated.{generated_run}
 use Rattle.geo_top.specs.Wholly.{IsAuditedWhole, IsJudgedWhole}
 use Rattle.geo_top.proofs.Accepted.{traced_whole}
 use Rattle.geo_top.proofs.Auditing.{accepted_safe, accepted_whole}
-use Rattle.geo_top.proofs.Claims.{holds_of}
+use Rattle.run_report.proofs.Claims.{holds_of}
 use Rattle.geo_top.proofs.OneRun.{counted_same, kept_is}
 use Rattle.geo_top.proofs.SaidSteps.{schedule_said}
 use Rattle.geo_top.proofs.SavedWith.{loaded_holds, ok_maps}

@@ -30,12 +30,13 @@ use Rattle.geo_top.specs.declared.top.status.Status.TheVariants as status
 use Rattle.geo_top.specs.Causes.{HasBadLine, HasBadObservation, HasBadState, HasFindings, HasRefusedLine, IsExceeded, RunExceeds}
 use Rattle.geo_top.specs.Commands.{auditing_command, command_resuming, command_showing, lost_command, lost_on_command, observe_command, resume_command, steps_on_command}
 use Rattle.geo_top.specs.Losing.{declaring, lost_of, lost_on}
-use Rattle.geo_top.specs.Outputs.{IsAnswerFor, IsAnswerToBytes, UnlessLarge, answer_going_on, answer_to, answer_to_audited, answer_to_findings, answer_to_generated, answer_to_judged, answer_to_loaded, answer_to_losing, answer_to_losing_loaded, answer_to_losing_on, answer_to_observed, answer_to_resumed, answer_to_save, answer_to_seen, answer_to_steps, answer_to_steps_on, big_steps, output_of, exceeded_limit, observation_in, resumed_limit, resumed_report, steps_declaring, summary_of, unless_exceeded}
-use Rattle.geo_top.specs.States.{file_of, stopped}
+use Rattle.geo_top.specs.Outputs.{IsAnswerFor, IsAnswerToBytes, UnlessLarge, answer_going_on, answer_to, answer_to_audited, answer_to_findings, answer_to_generated, answer_to_judged, answer_to_loaded, answer_to_losing, answer_to_losing_loaded, answer_to_losing_on, answer_to_observed, answer_to_resumed, answer_to_save, answer_to_seen, answer_to_steps, answer_to_steps_on, big_steps, output_of, observation_in, steps_declaring, summary_of, unless_exceeded}
+use Rattle.run_report.specs.Reports.{exceeded_limit, resumed_limit, resumed_report}
+use Rattle.run_report.specs.States.{file_of, stopped}
 use Rattle.geo_top.specs.Statuses.{IsMade, refusal_line}
 use Rattle.geo_top.specs.Stepped.{steps_of, steps_on}
 use Rattle.script_generator.specs.Generated.{generated_run}
-use Rattle.geo_top.proofs.Limits.{IsOnlyLimit, only_limit, only_limit_from}
+use Rattle.run_report.proofs.Limits.{IsOnlyLimit, only_limit, only_limit_from}
 
 -- by a status: which words and which input it had for its cause
 abbrev pub IsCaused : Option Command → List ℕ → Status → Type 0

@@ -19,9 +19,10 @@ use Rattle.kept_laws.specs.Reached.{Reached}
 use Rattle.geo_top.specs.declared.top.answer.Answer.{Answer}
 use Rattle.geo_top.specs.declared.top.command.Shown.{Shown}
 use Rattle.geo_top.specs.declared.top.status.Status.TheVariants as status
-use Rattle.geo_top.specs.Finished.{IsFinished}
-use Rattle.geo_top.specs.Outputs.{answer_to_big, answer_to_generated, answer_to_run, output_of, exceeded_limit, refused, summary_of}
-use Rattle.geo_top.proofs.Limits.{unlimited}
+use Rattle.run_report.specs.Finished.{IsFinished}
+use Rattle.geo_top.specs.Outputs.{answer_to_big, answer_to_generated, answer_to_run, output_of, refused, summary_of}
+use Rattle.run_report.specs.Reports.{exceeded_limit}
+use Rattle.run_report.proofs.Limits.{unlimited}
 
 -- the steps of a script, done from its opening world
 abbrev ComesTo : Setup → WorldView → WorldView → List Step → Result (Unit {0}) RunFault → Type 0

@@ -10,8 +10,8 @@ use Rattle.world_laws.specs.AlikeWorlds.{AreAlike}
 use Rattle.world_laws.proofs.KeptRuns.ResumedRuns.{between_alike, resumed_law}
 use Rattle.world_laws.proofs.KeptRuns.SavedRuns.{reached_law}
 use Rattle.geo_top.specs.OneRun.{GoesOnAlike, IsKept}
-use Rattle.geo_top.specs.Outputs.{exceeded_limit, resumed_limit}
-use Rattle.geo_top.specs.States.{gone_on, state_of_run, stopped}
+use Rattle.run_report.specs.Reports.{exceeded_limit, resumed_limit}
+use Rattle.run_report.specs.States.{gone_on, state_of_run, stopped}
 use Rattle.geo_top.proofs.OneRun.{kept_is, limits_same}
 
 -- where the saved script's run and the stop came, and where a run goes on from its file

@@ -19,7 +19,7 @@ use Rattle.geo_top.specs.declared.top.status.Status.TheVariants as status
 use Rattle.geo_top.specs.Commands.{observe_command}
 use Rattle.geo_top.specs.Founded.{IsFounded}
 use Rattle.geo_top.specs.Judged.{IsJudged}
-use Rattle.geo_top.specs.Outputs.{IsAnswerFor, IsAnswerToBytes, IsAnswerToInput, UnlessLarge, answer_to_findings, answer_to_observed, answer_to_observing, answer_to_seen, observation_in}
+use Rattle.geo_top.specs.Outputs.{IsAnswerFor, IsAnswerToBytes, IsAnswerToInput, UnlessLarge, answer_to_findings, answer_to_observed, answer_to_seen, observation_in}
 
 -- ---- an answer that is Ok
 abbrev pub IsToldSafe : List ℕ → Setup → Observation → Type 0

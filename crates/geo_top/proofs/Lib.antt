@@ -1,17 +1,6 @@
-pub mod Limits
-pub mod Lines
-pub mod Shown
 pub mod Views
 pub mod Tiers
 pub mod Finishing
-pub mod Quiet
-pub mod FewSent
-pub mod Held
-pub mod Waiting
-pub mod Energy
-pub mod FewEvents
-pub mod ShortSettling
-pub mod Headline
 pub mod Stopping
 pub mod Loaded
 pub mod Resuming
@@ -19,11 +8,6 @@ pub mod Saving
 pub mod SavedWith
 pub mod OneRun
 pub mod GoingOn
-pub mod ComesNot
-pub mod Again
-pub mod Anew
-pub mod Handed
-pub mod Claims
 pub mod Auditing
 pub mod Accepted
 pub mod Losing
@@ -36,3 +20,4 @@ pub mod Inputs
 pub mod TracedRuns
 pub mod SaidSteps
 pub mod SteppedRuns
+pub mod Summed

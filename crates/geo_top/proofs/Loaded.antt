@@ -11,9 +11,9 @@ use Rattle.state_items.specs.Texts.{number, word}
 use Rattle.kept_laws.specs.Saved.{IsLeft, IsShortState}
 use Rattle.kept_laws.proofs.Left.{saved_law}
 use Rattle.geo_top.specs.OneRun.{IsKept}
-use Rattle.geo_top.specs.Outputs.{exceeded_limit}
-use Rattle.geo_top.specs.States.{file_of, state_of_run, stopped}
-use Rattle.geo_top.proofs.Limits.{unlimited}
+use Rattle.run_report.specs.Reports.{exceeded_limit}
+use Rattle.run_report.specs.States.{file_of, state_of_run, stopped}
+use Rattle.run_report.proofs.Limits.{unlimited}
 use Rattle.geo_top.proofs.Stopping.{run_limit, stop_limit, stop_world}
 
 -- where the run and the stop after it pass no limit, the run passes none

@@ -22,10 +22,11 @@ use Rattle.world.specs.World.{WorldView}
 use Rattle.world_measures.specs.Worlds.{HasBrokers}
 use Rattle.geo_top.specs.declared.top.answer.Answer.{Answer}
 use Rattle.geo_top.specs.declared.top.status.Status.TheVariants as status
-use Rattle.geo_top.specs.Finished.{IsResumed}
+use Rattle.run_report.specs.Finished.{IsResumed}
 use Rattle.geo_top.specs.Losing.{declaring, declaring_on, is_cut, undeclared, with_end}
-use Rattle.geo_top.specs.Outputs.{IsAnswerToLosingFile, answer_to_losing, answer_to_losing_on, exceeded_limit, refused, resumed_limit, unless_exceeded}
-use Rattle.geo_top.specs.States.{resumed}
+use Rattle.geo_top.specs.Outputs.{IsAnswerToLosingFile, answer_to_losing, answer_to_losing_on, refused, unless_exceeded}
+use Rattle.run_report.specs.Reports.{exceeded_limit, resumed_limit}
+use Rattle.run_report.specs.States.{resumed}
 
 -- ---- the number of a name
 

@@ -30,9 +30,10 @@ use Rattle.geo_top.specs.declared.top.command.Shown.TheVariants as shown
 use Rattle.geo_top.specs.declared.top.status.Status.TheVariants as status
 use Rattle.geo_top.specs.Losing.{cluster_number, lost_of, lost_on}
 use Rattle.geo_top.specs.OneRun.{IsGoneOn, IsKept, IsSavedWith, IsTextOn, counted_on, lines_before, text_on}
-use Rattle.geo_top.specs.Outputs.{IsAnswerToFile, answer_to, answer_to_resumed, answer_to_run, exceeded_limit, refused, report_of, resumed_limit, resumed_report, unless_exceeded}
-use Rattle.geo_top.specs.States.{gone_on, resumed_under, state_of_run, stopped}
-use Rattle.geo_top.proofs.Limits.{unlimited}
+use Rattle.geo_top.specs.Outputs.{IsAnswerToFile, answer_to, answer_to_resumed, answer_to_run, refused, unless_exceeded}
+use Rattle.run_report.specs.Reports.{exceeded_limit, report_of, resumed_limit, resumed_report}
+use Rattle.run_report.specs.States.{gone_on, resumed_under, state_of_run, stopped}
+use Rattle.run_report.proofs.Limits.{unlimited}
 use Rattle.geo_top.proofs.SavedWith.{answer_is}
 
 -- ---- what is kept of a run leads to the world that is kept

@@ -13,9 +13,9 @@ use Rattle.script_text.specs.Script.{Script}
 use Rattle.state_file.specs.State.{SavedState}
 use Rattle.kept_laws.specs.Reached.{Reached}
 use Rattle.kept_laws.specs.Standing.{Stands}
-use Rattle.geo_top.specs.Finished.{IsBegun, IsResumed}
-use Rattle.geo_top.specs.States.{resumed_under}
-use Rattle.geo_top.proofs.Limits.{unlimited_from}
+use Rattle.run_report.specs.Finished.{IsBegun, IsResumed}
+use Rattle.run_report.specs.States.{resumed_under}
+use Rattle.run_report.proofs.Limits.{unlimited_from}
 
 -- what a run of these steps leaves, by the setup of a script
 abbrev pub Runs : Script → WorldView → WorldView → List Step → Result (Unit {0}) RunFault → Type 0

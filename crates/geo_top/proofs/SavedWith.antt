@@ -12,7 +12,7 @@ use Rattle.geo_top.specs.declared.top.answer.Answer.{Answer}
 use Rattle.geo_top.specs.declared.top.command.GoingOn.TheVariants as going_on
 use Rattle.geo_top.specs.OneRun.{IsSavedWith}
 use Rattle.geo_top.specs.Outputs.{IsAnswerToFile, answer_to_loaded, answer_to_resumed}
-use Rattle.geo_top.specs.States.{file_of, state_of_run}
+use Rattle.run_report.specs.States.{file_of, state_of_run}
 use Rattle.geo_top.proofs.Loaded.{loaded_again}
 
 -- the lines after the file's bytes

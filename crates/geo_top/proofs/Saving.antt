@@ -12,12 +12,13 @@ use Rattle.state_file.specs.State.{SavedState}
 use Rattle.geo_top.specs.declared.top.answer.Answer.{Answer}
 use Rattle.geo_top.specs.declared.top.command.GoingOn.{GoingOn}
 use Rattle.geo_top.specs.declared.top.status.Status.TheVariants as status
-use Rattle.geo_top.specs.Finished.{IsResumed}
-use Rattle.geo_top.specs.Outputs.{IsAnswerToFile, answer_going_on, answer_to_resumed, answer_to_saved, answer_to_steps_on, exceeded_limit, refused, resumed_report, unless_exceeded}
-use Rattle.geo_top.specs.Shown.{shown_world}
+use Rattle.run_report.specs.Finished.{IsResumed}
+use Rattle.geo_top.specs.Outputs.{IsAnswerToFile, answer_going_on, answer_to_resumed, answer_to_saved, answer_to_steps_on, refused, unless_exceeded}
+use Rattle.run_report.specs.Reports.{exceeded_limit, resumed_report}
+use Rattle.run_report.specs.Shown.{shown_world}
 use Rattle.geo_top.specs.Stepped.{steps_on}
-use Rattle.geo_top.specs.States.{file_of, resumed_under, stopped}
-use Rattle.geo_top.proofs.Shown.{shown_resumed}
+use Rattle.run_report.specs.States.{file_of, resumed_under, stopped}
+use Rattle.run_report.proofs.Shown.{shown_resumed}
 
 abbrev ok_answer : List ℕ → Answer
 ok_answer bytes = record { status = status.Ok; bytes = bytes }

@@ -33,10 +33,11 @@ use Rattle.kept_laws.specs.Saved.{world_from}
 use Rattle.kept_laws.specs.Standing.{Stands}
 use Rattle.geo_top.specs.declared.top.answer.Answer.{Answer}
 use Rattle.geo_top.specs.declared.top.status.Status.TheVariants as status
-use Rattle.geo_top.specs.Outputs.{answer_to_big_steps, answer_to_steps, big_steps, exceeded_limit, refused, resumed_limit, unless_exceeded}
-use Rattle.geo_top.specs.Shown.{shown_world}
+use Rattle.geo_top.specs.Outputs.{answer_to_big_steps, answer_to_steps, big_steps, refused, unless_exceeded}
+use Rattle.run_report.specs.Reports.{exceeded_limit, resumed_limit}
+use Rattle.run_report.specs.Shown.{shown_world}
 use Rattle.geo_top.specs.Stepped.{steps_by_schedule, steps_of, steps_on, steps_text}
-use Rattle.geo_top.proofs.Shown.{shown_same}
+use Rattle.run_report.proofs.Shown.{shown_same}
 
 -- ---- a run from a world on
 

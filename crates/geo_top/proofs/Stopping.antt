@@ -12,10 +12,10 @@ use Rattle.world.specs.Saving.{Saves}
 use Rattle.state_file.specs.State.{state_in, state_of}
 use Rattle.script_text.specs.Script.{Script}
 use Rattle.state_file.specs.declared.saved.Saved.{Saved}
-use Rattle.geo_top.specs.Outputs.{exceeded_limit}
-use Rattle.geo_top.specs.States.{state_of_run, stopped}
-use Rattle.geo_top.proofs.Limits.{never_ends, unlimited}
-use Rattle.geo_top.proofs.Quiet.{run_append}
+use Rattle.run_report.specs.Reports.{exceeded_limit}
+use Rattle.run_report.specs.States.{state_of_run, stopped}
+use Rattle.run_report.proofs.Limits.{never_ends, unlimited}
+use Rattle.run_report.proofs.Quiet.{run_append}
 
 stop_goes : (l : Limits) (s : Setup) (r : Ran) → r.ended ≡ None → steps l s r step.Stop ≡ ends_or r (stops s r.world) (l (stops s r.world))
 unfolding steps

@@ -17,12 +17,12 @@ use Rattle.report_lines.specs.Tiers.{moved_ledgers, moved_line, tier_lines}
 use Rattle.script_text.specs.Scenario.{IsScenario}
 use Rattle.script_text.specs.Script.{Script}
 use Rattle.world.specs.World.{IsAt, WorldView, node_at}
-use Rattle.geo_top.specs.Finished.{IsFinished}
-use Rattle.geo_top.specs.Shown.{shown_world}
+use Rattle.run_report.specs.Finished.{IsFinished}
+use Rattle.run_report.specs.Shown.{shown_world}
 use Rattle.geo_top.specs.Tiered.{AreTopicsTellable, tiered, tiers_at, tiers_of}
-use Rattle.geo_top.proofs.Limits.{unlimited}
-use Rattle.geo_top.proofs.Lines.{broker_there, here}
-use Rattle.geo_top.proofs.Shown.{shown_is, unlinked}
+use Rattle.run_report.proofs.Limits.{unlimited}
+use Rattle.run_report.proofs.Lines.{broker_there, here}
+use Rattle.run_report.proofs.Shown.{shown_is, unlinked}
 
 -- ---- what a run stores can move
 

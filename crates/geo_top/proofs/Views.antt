@@ -16,11 +16,11 @@ use Rattle.script_text.specs.Script.{Script}
 use Rattle.world.specs.World.{IsAt, WorldView, node_at}
 use Rattle.geo_top.specs.Compacted.{compacted, views_at, views_of}
 use Rattle.geo_top.specs.declared.top.command.Shown.{Shown}
-use Rattle.geo_top.specs.Finished.{IsFinished}
+use Rattle.run_report.specs.Finished.{IsFinished}
 use Rattle.geo_top.specs.Outputs.{output_of}
-use Rattle.geo_top.specs.Shown.{shown_world}
-use Rattle.geo_top.proofs.Lines.{broker_there, here}
-use Rattle.geo_top.proofs.Shown.{shown_is, unlinked}
+use Rattle.run_report.specs.Shown.{shown_world}
+use Rattle.run_report.proofs.Lines.{broker_there, here}
+use Rattle.run_report.proofs.Shown.{shown_is, unlinked}
 
 -- ---- the views of a topic at each cluster, and those of all topics
 

@@ -22,11 +22,12 @@ use Rattle.geo_top.specs.declared.top.status.Status.{Status}
 use Rattle.geo_top.specs.declared.top.status.Status.TheVariants as status
 use Rattle.geo_top.specs.Audits.{IsAuditedSafe, audit_line}
 use Rattle.geo_top.specs.Causes.{HasBadLine, HasBadObservation, HasBadState, HasFindings, HasRefusedLine, IsExceeded}
-use Rattle.geo_top.specs.Claims.{HoldsOf, HoldsWithin}
+use Rattle.run_report.specs.Claims.{HoldsOf, HoldsWithin}
 use Rattle.geo_top.specs.Commands.{Reads, audit_command, command_showing, resume_command, run_command, save_command, steps_command, steps_on_command}
 use Rattle.geo_top.specs.OneRun.{GoesOnAlike, IsKept, IsSavedWith, counted_on, lines_before, text_on}
-use Rattle.geo_top.specs.Outputs.{IsAnswerFor, answer_to, answer_to_audit, answer_to_big, big_steps, output_of, report_of, resumed_limit, resumed_report, summary_of}
-use Rattle.geo_top.specs.States.{file_of, gone_on, stopped}
+use Rattle.geo_top.specs.Outputs.{IsAnswerFor, answer_to, answer_to_audit, answer_to_big, big_steps, output_of, summary_of}
+use Rattle.run_report.specs.Reports.{report_of, resumed_limit, resumed_report}
+use Rattle.run_report.specs.States.{file_of, gone_on, stopped}
 use Rattle.geo_top.specs.Statuses.{IsDue, IsMade, refusal_line}
 use Rattle.geo_top.specs.Stepped.{AreAllSaid, AreAllSaidOn, AreAllWritten, steps_of, steps_on}
 use Rattle.geo_top.specs.Judged.{IsJudged}

@@ -18,8 +18,9 @@ use Rattle.geo_top.specs.declared.top.command.Reading.{Reading}
 use Rattle.geo_top.specs.declared.top.command.Reading.TheVariants as reading
 use Rattle.geo_top.specs.Commands.{Reads, auditing_command, command_resuming, lost_on_command, observe_command}
 use Rattle.geo_top.specs.Losing.{declaring}
-use Rattle.geo_top.specs.Outputs.{exceeded_limit, observation_in, resumed_limit, steps_declaring}
-use Rattle.geo_top.specs.States.{stopped}
+use Rattle.geo_top.specs.Outputs.{observation_in, steps_declaring}
+use Rattle.run_report.specs.Reports.{exceeded_limit, resumed_limit}
+use Rattle.run_report.specs.States.{stopped}
 use Rattle.script_generator.specs.Generated.{generated_run}
 
 -- a line breaks a rule: of the script, or after the state

@@ -1,12 +1,8 @@
 pub mod Commands
 pub mod Statuses
-pub mod Again
-pub mod Headline
-pub mod Shown
 pub mod Compacted
 pub mod Tiered
 pub mod Summary
-pub mod States
 pub mod Audits
 pub mod Traced
 pub mod Stepped
@@ -14,8 +10,6 @@ pub mod Losing
 pub mod Outputs
 pub mod Causes
 pub mod Wholly
-pub mod Finished
-pub mod Claims
 pub mod OneRun
 pub mod ToldLoss
 pub mod Judged

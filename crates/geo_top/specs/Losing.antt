@@ -16,7 +16,7 @@ use Rattle.script_rows.specs.NameBytes.{is_among, number_in}
 use Rattle.script_text.specs.Lines.{lines_of}
 use Rattle.script_text.specs.Script.{Fault, Script}
 use Rattle.state_file.specs.State.{SavedState}
-use Rattle.geo_top.specs.States.{resumed}
+use Rattle.run_report.specs.States.{resumed}
 
 -- ---- the cluster, by its name
 

@@ -16,8 +16,9 @@ use Rattle.geo_top.specs.declared.top.command.GoingOn.TheVariants as going_on
 use Rattle.geo_top.specs.declared.top.command.Shown.TheVariants as shown
 use Rattle.geo_top.specs.declared.top.status.Status.{Status}
 use Rattle.geo_top.specs.declared.top.status.Status.TheVariants as status
-use Rattle.geo_top.specs.Outputs.{IsAnswerToFile, answer_to, answer_to_resumed, answer_to_run, exceeded_limit, refused}
-use Rattle.geo_top.specs.States.{file_of, state_of_run, stopped}
+use Rattle.geo_top.specs.Outputs.{IsAnswerToFile, answer_to, answer_to_resumed, answer_to_run, refused}
+use Rattle.run_report.specs.Reports.{exceeded_limit}
+use Rattle.run_report.specs.States.{file_of, state_of_run, stopped}
 
 -- a script whose run and a stop after it pass no limit, so that its state can be saved
 pub record IsKept (n : Script) : Type 0 where

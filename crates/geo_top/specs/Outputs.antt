@@ -5,8 +5,7 @@ use Rattle.audit.specs.declared.strictness.Strictness.{Strictness}
 use Rattle.audit.specs.declared.strictness.Strictness.TheVariants as strictness
 use Rattle.geo_base.specs.declared.event.Step.{Step}
 use Rattle.geo_base.specs.Audit.{Refusal}
-use Rattle.geo_base.specs.Report.{report}
-use Rattle.geo_base.specs.Run.{all_limits, run, run_under}
+use Rattle.geo_base.specs.Run.{run}
 use Rattle.geo_base.specs.Setup.{Setup}
 use Rattle.observation.specs.declared.finding.Finding.{Finding}
 use Rattle.observation.specs.Findings.{findings_of}
@@ -36,10 +35,11 @@ use Rattle.geo_top.specs.declared.top.status.Status.{Status}
 use Rattle.geo_top.specs.Audits.{audit_line}
 use Rattle.geo_top.specs.Compacted.{compacted}
 use Rattle.geo_top.specs.Losing.{declaring, declaring_on, lost_of, lost_on}
-use Rattle.geo_top.specs.States.{file_of, resumed, resumed_under, stopped}
+use Rattle.run_report.specs.States.{file_of, stopped}
 use Rattle.geo_top.specs.Statuses.{refusal_line}
 use Rattle.geo_top.specs.Stepped.{steps_by_schedule, steps_of, steps_on}
 use Rattle.geo_top.specs.Summary.{summary}
+use Rattle.run_report.specs.Reports.{exceeded_limit, report_of, resumed_limit, resumed_report}
 use Rattle.geo_top.specs.Tiered.{tiered}
 use Rattle.geo_top.specs.Traced.{traced_of}
 use Rattle.script_generator.specs.Generated.{generated_run}
@@ -53,11 +53,7 @@ unless_exceeded bytes None = record { status = status.Ok; bytes = bytes }
 unless_exceeded bytes (Some limit) = refused (status.TooLarge limit)
 
 -- ---- to a script that is run
--- the bytes of the report of a script's run
-abbrev pub report_of : Script → List ℕ
-report_of n = report n.setup (run n.setup n.steps)
-
--- those of its compacted views
+-- the bytes of its compacted views
 abbrev pub compacted_of : ℕ → Script → List ℕ
 compacted_of horizon n = compacted horizon n.setup (run n.setup n.steps)
 
@@ -71,11 +67,6 @@ output_of shown.Report n = report_of n
 output_of (shown.Compacted horizon) n = compacted_of horizon n
 output_of (shown.Tiered keep) n = tiered_of keep n
 output_of shown.Trace n = traced_of n
-
--- the number of the limit that a script's run passes: 2, where events and idle events together would be more than 2,000,000; 3,
--- where the bytes of all frames would be more than 1 GiB
-abbrev pub exceeded_limit : Script → Option ℕ
-exceeded_limit n = (run_under all_limits n.setup n.steps).ended
 
 -- to a script, whose run passes a limit or none
 abbrev pub answer_to_run : Shown → Script → Option ℕ → Answer
@@ -99,14 +90,6 @@ answer_to_steps text (Ok n) = unless_exceeded (steps_of text n) (exceeded_limit 
 answer_to_steps text (Err f) = refused (status.BadScript f.line f.rule)
 
 -- ---- to a state with a schedule after it, from which a run goes on
--- the bytes of its report
-abbrev pub resumed_report : SavedState → List Step → List ℕ
-resumed_report f es = report f.scenario.setup (resumed f es)
-
--- the number of the limit that it passes
-abbrev pub resumed_limit : SavedState → List Step → Option ℕ
-resumed_limit f es = (resumed_under all_limits f es).ended
-
 abbrev pub answer_to_resumed : SavedState → Result (List Step) Fault → Answer
 answer_to_resumed f (Ok es) = unless_exceeded (resumed_report f es) (resumed_limit f es)
 answer_to_resumed f (Err e) = refused (status.BadScript e.line e.rule)

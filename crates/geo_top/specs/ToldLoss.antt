@@ -9,12 +9,12 @@ use Rattle.state_file.specs.State.{SavedState}
 use Rattle.geo_top.specs.declared.top.command.Command.{Command}
 use Rattle.geo_top.specs.declared.top.status.Status.{Status}
 use Rattle.geo_top.specs.declared.top.status.Status.TheVariants as status
-use Rattle.geo_top.specs.Claims.{HoldsWithin}
+use Rattle.run_report.specs.Claims.{HoldsWithin}
 use Rattle.geo_top.specs.Commands.{lost_command, lost_on_command}
 use Rattle.geo_top.specs.Losing.{Declares, LossHolds, lost_of, lost_on}
 use Rattle.geo_top.specs.OneRun.{IsSavedWith}
-use Rattle.geo_top.specs.Outputs.{resumed_limit}
-use Rattle.geo_top.specs.States.{gone_on}
+use Rattle.run_report.specs.Reports.{resumed_limit}
+use Rattle.run_report.specs.States.{gone_on}
 
 pub record IsToldLoss (c : Option Command) (input output : List ℕ) (s : Status) : Type 0 where
   -- With Ok, `lost X` writes what is lost if X goes where the run of the script ends that the input is, which declares X: what is missing

@@ -5,7 +5,7 @@
 ghost use Rattle.std.specs.Prelude.{◌≡◌, ◌<◌, ◌++◌, [], length, slice_index_or, IfOk, OnOk};
 ghost use Rattle.geo_base.specs.Report.{with_line_feeds};
 ghost use Rattle.geo_top.specs.Compacted.{compacted, views_at, views_of};
-ghost use Rattle.geo_top.specs.Shown.{shown_world};
+ghost use Rattle.run_report.specs.Shown.{shown_world};
 ghost use Rattle.world.specs.World.{IsAt};
 
 use geo_base::{Blob, EntryStore, Memory};

@@ -2,7 +2,7 @@
 //!
 //! [`answer`] is the program as one call over bytes: what it answers to words and an input, a script or a state file, whose run
 //! `world` does. [`geo_alone`] reads the input from a source, and writes what is answered to a sink.
-//! [`report`] and [`refusal`] are for the one command that stands above this crate, since its brokers run on threads.
+//! [`refusal`] is for the one command that stands above this crate, since its brokers run on threads.
 #![tactic(auto)]
 
 mod compacted;
@@ -14,7 +14,6 @@ mod summary;
 mod tiered;
 mod top;
 mod traced;
-mod world_report;
 
 pub use law::resumed_runs_are_one;
 pub use top::alone::geo_alone;
@@ -22,4 +21,3 @@ pub use top::answer::{Answer, refusal};
 pub use top::bytes::answer;
 pub use top::command::Word;
 pub use top::status::Status;
-pub use world_report::report;

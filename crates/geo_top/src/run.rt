@@ -1,9 +1,9 @@
 //! The runs of the program.
 ghost use Rattle.std.specs.Prelude.{◌≡◌, ℕ, All, Err, IfOk, None, OnOk, Some};
 ghost use Rattle.geo_base.specs.Run.{all_limits};
-ghost use Rattle.geo_top.specs.Finished.{IsFinished, IsResumed};
-ghost use Rattle.geo_top.specs.Outputs.{exceeded_limit};
-ghost use Rattle.geo_top.specs.States.{file_of, resumed_under, state_of_run, stopped};
+ghost use Rattle.run_report.specs.Finished.{IsFinished, IsResumed};
+ghost use Rattle.run_report.specs.Reports.{exceeded_limit};
+ghost use Rattle.run_report.specs.States.{file_of, resumed_under, state_of_run, stopped};
 ghost use Rattle.script_text.specs.Scenario.{IsStep};
 ghost use Rattle.state_file.specs.Known.{IsKnownState};
 ghost use Rattle.state_file.specs.State.{state_of};

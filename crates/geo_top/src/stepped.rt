@@ -3,8 +3,8 @@ ghost use Rattle.std.specs.Prelude.{◌≡◌, ◌≤◌, ◌++◌, ◌∷◌, �
 ghost use Rattle.geo_base.specs.Report.{report};
 ghost use Rattle.geo_base.specs.Run.{all_limits, run_from};
 ghost use Rattle.geo_base.specs.World.{World as Machine};
-ghost use Rattle.geo_top.specs.Outputs.{exceeded_limit, resumed_limit};
-ghost use Rattle.geo_top.specs.Shown.{shown_world};
+ghost use Rattle.run_report.specs.Reports.{exceeded_limit, resumed_limit};
+ghost use Rattle.run_report.specs.Shown.{shown_world};
 ghost use Rattle.geo_top.specs.Stepped.{steps_by_schedule, steps_of, steps_on, steps_text};
 ghost use Rattle.script_text.specs.Canonical.{declarations_text};
 ghost use Rattle.script_text.specs.Rules.{script_of};
@@ -19,8 +19,8 @@ ghost use Rattle.world.specs.World.{IsAt, kept_of};
 ghost use Rattle.kept_laws.specs.Reached.{Reached};
 ghost use Rattle.kept_laws.specs.Standing.{Stands};
 
-use crate::world_report::{add_head, report};
 use geo_base::{Blob, Memory};
+use run_report::{add_head, report};
 use script_text::{SaidLines, Scenario, StepList, write_declarations, write_schedule};
 use state_file::Saved;
 use std::alloc::Global;

@@ -1,13 +1,13 @@
 //! The summary of a generated run, line by line.
 ghost use Rattle.std.specs.Prelude.{◌≡◌, ◌++◌, ◌∷◌, [], string_bytes, IfOk, OnErr, OnOk};
 ghost use Rattle.geo_base.specs.Report.{with_line_feeds};
-ghost use Rattle.geo_top.specs.Shown.{shown_world};
+ghost use Rattle.run_report.specs.Shown.{shown_world};
 ghost use Rattle.geo_top.specs.Summary.{big_line, stored_line, stored_lines, summary};
 ghost use Rattle.world.specs.World.{IsAt};
 
-use crate::world_report::add_head;
 use geo_base::{Blob, EntryStore, Memory};
 use report_lines::add;
+use run_report::add_head;
 use script_text::Scenario;
 use std::alloc::Global;
 use topic_store::TopicLedger;

@@ -4,7 +4,7 @@
 //! is given up then.
 ghost use Rattle.std.specs.Prelude.{◌≡◌, ◌<◌, ◌≤◌, ◌++◌, ◌∷◌, [], length, slice_index_or, IfOk, OnOk};
 ghost use Rattle.geo_base.specs.Report.{entry_lines, with_line_feeds};
-ghost use Rattle.geo_top.specs.Shown.{shown_world};
+ghost use Rattle.run_report.specs.Shown.{shown_world};
 ghost use Rattle.geo_top.specs.Tiered.{AreTopicsTellable, tiered, tiers_at, tiers_of};
 ghost use Rattle.report_lines.specs.Tiers.{moved_line};
 ghost use Rattle.tiered_storage.specs.Kept.{kept_in};

@@ -1,6 +1,6 @@
 //! The trace of a script's run.
 ghost use Rattle.std.specs.Prelude.{◌≡◌, ◌++◌, ◌∷◌, ℕ, [], codes, Err, IfOk, None, OnOk, Some};
-ghost use Rattle.geo_top.specs.Outputs.{exceeded_limit};
+ghost use Rattle.run_report.specs.Reports.{exceeded_limit};
 ghost use Rattle.geo_top.specs.Traced.{traced_of};
 ghost use Rattle.script_text.specs.Canonical.{declarations_text};
 

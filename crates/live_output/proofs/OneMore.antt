@@ -23,8 +23,8 @@ use Rattle.kept_laws.specs.Standing.{Stands}
 use Rattle.kept_laws.specs.Reached.{Reached}
 use Rattle.kept_laws.proofs.Keeping.{opening}
 use Rattle.kept_laws.proofs.Reaching.{opening_reached}
-use Rattle.geo_top.proofs.Limits.{unlimited}
-use Rattle.geo_top.proofs.Quiet.{run_append}
+use Rattle.run_report.proofs.Limits.{unlimited}
+use Rattle.run_report.proofs.Quiet.{run_append}
 use Rattle.live_output.specs.Playing.{HasPlace, IsEventStep, IsPlayed}
 use Rattle.live_output.specs.Schedules.{fits, longest, with_settling}
 use Rattle.live_output.proofs.Longest.{whole_law}

@@ -16,10 +16,10 @@ use Rattle.merge_history.specs.Events.{AreMergedEvents, AreOwnEvents}
 use Rattle.merge_history.specs.Merges.{IsMerged}
 use Rattle.merge_history.proofs.Allowed.{merged_may}
 use Rattle.world.specs.World.{WorldView}
-use Rattle.geo_top.specs.Outputs.{exceeded_limit, report_of}
-use Rattle.geo_top.specs.Shown.{shown_world}
-use Rattle.geo_top.proofs.Claims.{holds_of}
-use Rattle.geo_top.proofs.Shown.{shown_report}
+use Rattle.run_report.specs.Reports.{exceeded_limit, report_of}
+use Rattle.run_report.specs.Shown.{shown_world}
+use Rattle.run_report.proofs.Claims.{holds_of}
+use Rattle.run_report.proofs.Shown.{shown_report}
 use Rattle.live_output.specs.LiveRuns.{IsOutputOf, IsOutputOfAll, TellsRun, live_text}
 use Rattle.live_output.specs.Playing.{IsEventStep, IsPlayed, with_steps}
 use Rattle.live_output.specs.Schedules.{EndsSettled, longest, scheduled, with_settling}

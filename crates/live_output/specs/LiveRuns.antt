@@ -11,8 +11,8 @@ use Rattle.merge_history.specs.Ends.{AreStood, layout_of}
 use Rattle.merge_history.specs.Kept.{Kept}
 use Rattle.merge_history.specs.Logs.{AreKept, LogView}
 use Rattle.merge_history.specs.Events.{AreMergedEvents}
-use Rattle.geo_top.specs.Claims.{HoldsOf}
-use Rattle.geo_top.specs.Outputs.{exceeded_limit, report_of}
+use Rattle.run_report.specs.Claims.{HoldsOf}
+use Rattle.run_report.specs.Reports.{exceeded_limit, report_of}
 use Rattle.live_output.specs.Playing.{with_steps}
 use Rattle.live_output.specs.Schedules.{EndsSettled, scheduled}
 

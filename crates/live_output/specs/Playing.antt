@@ -9,7 +9,7 @@ use Rattle.script_rows.specs.Written.{IsPositionOrEnd}
 use Rattle.script_text.specs.Scenario.{IsStep}
 use Rattle.script_text.specs.Script.{Script}
 use Rattle.world.specs.World.{WorldView}
-use Rattle.geo_top.specs.Finished.{IsFinished}
+use Rattle.run_report.specs.Finished.{IsFinished}
 
 -- a script with these steps in place of its own
 abbrev pub with_steps : Script → List Step → Script

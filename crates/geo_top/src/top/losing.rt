@@ -3,8 +3,9 @@ ghost use Rattle.std.specs.Prelude.{◌≡◌, ◌<◌, ◌≤◌, ◌+◌, ℕ,
 ghost use Rattle.geo_base.specs.Run.{run};
 ghost use Rattle.geo_top.specs.Founded.{IsAccepted};
 ghost use Rattle.geo_top.specs.Losing.{declaring, declaring_on};
-ghost use Rattle.geo_top.specs.Outputs.{IsAnswerToLosingFile, answer_to_losing, answer_to_losing_on, exceeded_limit, resumed_limit, unless_exceeded};
-ghost use Rattle.geo_top.specs.States.{resumed};
+ghost use Rattle.geo_top.specs.Outputs.{IsAnswerToLosingFile, answer_to_losing, answer_to_losing_on, unless_exceeded};
+ghost use Rattle.run_report.specs.Reports.{exceeded_limit, resumed_limit};
+ghost use Rattle.run_report.specs.States.{resumed};
 ghost use Rattle.loss_laws.specs.LostLines.{lost_text};
 ghost use Rattle.script_text.specs.Lines.{lines_of};
 ghost use Rattle.script_text.specs.Rules.{script_of};

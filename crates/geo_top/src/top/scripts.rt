@@ -1,8 +1,9 @@
 //! The answers of the commands that show something of a script's run, and of the one that sums up a generated run.
 ghost use Rattle.std.specs.Prelude.{◌≡◌, ◌≤◌, ℕ, Err, IfOk, None, OnOk, Some, length};
-ghost use Rattle.geo_top.specs.Finished.{IsFinished};
+ghost use Rattle.run_report.specs.Finished.{IsFinished};
 ghost use Rattle.geo_top.specs.Founded.{IsAccepted};
-ghost use Rattle.geo_top.specs.Outputs.{answer_to, answer_to_big, answer_to_run, compacted_of, output_of, exceeded_limit, report_of, summary_of, tiered_of};
+ghost use Rattle.geo_top.specs.Outputs.{answer_to, answer_to_big, answer_to_run, compacted_of, output_of, summary_of, tiered_of};
+ghost use Rattle.run_report.specs.Reports.{exceeded_limit, report_of};
 ghost use Rattle.script_generator.specs.Generated.{generated_run};
 ghost use Rattle.script_text.specs.Rules.{script_of};
 ghost use Rattle.script_text.specs.Scenario.{IsScenario};
@@ -16,9 +17,9 @@ use crate::top::command::Shown;
 use crate::top::given_back::give_back;
 use crate::top::status::Status;
 use crate::traced::trace_script;
-use crate::world_report::report;
 use geo_base::limits::INPUT_BYTES;
 use geo_base::{Blob, Memory};
+use run_report::report;
 use script_generator::generate;
 use script_text::{Scenario, ScriptFault, read_script};
 use std::alloc::Global;
@@ -160,7 +161,7 @@ pub fn generated(alloc: Global, number: u32) -> Result<Scenario, Memory>
 }
 
 /// The summary of such a world.
-#[tactic(auto, using(crate::proofs::Shown::shown_summary))]
+#[tactic(auto, using(crate::proofs::Summed::shown_summary))]
 fn summary(alloc: Global, number: u32, scenario: &Scenario, world: &World) -> Result<Blob, Memory>
     requires number { scenario.now ≡ generated_run number }
     requires finished { IsFinished scenario.now world.now }

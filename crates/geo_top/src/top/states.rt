@@ -1,7 +1,8 @@
 //! The answers of the commands on state files.
 ghost use Rattle.std.specs.Prelude.{◌≡◌, ◌<◌, ◌≤◌, ◌^◌, ℕ, All, Err, IfOk, None, OnOk, Ok, Some, drop, length};
 ghost use Rattle.geo_top.specs.Founded.{IsAccepted};
-ghost use Rattle.geo_top.specs.Outputs.{IsAnswerToFile, answer_going_on, answer_to_resumed, answer_to_save, answer_to_saved, answer_to_steps_on, resumed_limit, resumed_report};
+ghost use Rattle.geo_top.specs.Outputs.{IsAnswerToFile, answer_going_on, answer_to_resumed, answer_to_save, answer_to_saved, answer_to_steps_on};
+ghost use Rattle.run_report.specs.Reports.{resumed_limit, resumed_report};
 ghost use Rattle.script_text.specs.Rules.{script_of};
 ghost use Rattle.script_text.specs.Scenario.{IsStep};
 ghost use Rattle.script_text.specs.Schedule.{schedule_of};
@@ -14,9 +15,9 @@ use crate::top::answer::{Answer, refusal};
 use crate::top::command::GoingOn;
 use crate::top::given_back::give_back;
 use crate::top::status::Status;
-use crate::world_report::report;
 use geo_base::limits::INPUT_BYTES;
 use geo_base::{Blob, Memory};
+use run_report::report;
 use script_text::{Scenario, ScriptFault, StepList, read_schedule, read_script};
 use state_file::{Saved, StateFault, load};
 use std::alloc::Global;

@@ -2,7 +2,7 @@ use Rattle.std.proofs.Common.{◌++◌, [], ◌∙◌}
 use Rattle.std.specs.Prelude.{slice_index_or}
 use Rattle.geo_base.specs.Report.{with_line_feeds}
 use Rattle.geo_top.specs.Compacted.{views_at}
-use Rattle.geo_top.specs.Shown.{shown_world}
+use Rattle.run_report.specs.Shown.{shown_world}
 use Rattle.geo_top.proofs.Views.{first_line, name_at, view_added}
 use Rattle.geo_top.proofs.compacted.add_topic.Goals as goal
 

@@ -1,7 +1,7 @@
 use Rattle.std.proofs.Common.{◌++◌}
 use Rattle.geo_base.specs.Report.{with_line_feeds}
 use Rattle.geo_top.specs.Compacted.{views_of}
-use Rattle.geo_top.specs.Shown.{shown_world}
+use Rattle.run_report.specs.Shown.{shown_world}
 use Rattle.geo_top.proofs.Views.{topic_viewed}
 use Rattle.geo_top.proofs.compacted.add_views.Goals as goal
 

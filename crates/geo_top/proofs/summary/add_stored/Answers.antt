@@ -1,8 +1,8 @@
 use Rattle.std.proofs.Common.{◌++◌}
 use Rattle.geo_base.specs.Report.{with_line_feeds}
-use Rattle.geo_top.specs.Shown.{shown_world}
+use Rattle.run_report.specs.Shown.{shown_world}
 use Rattle.geo_top.specs.Summary.{stored_lines}
-use Rattle.geo_top.proofs.Lines.{stored_added}
+use Rattle.geo_top.proofs.Summed.{stored_added}
 use Rattle.geo_top.proofs.summary.add_stored.Goals as goal
 
 pub loop-number-preserved : goal.loop-number-preserved

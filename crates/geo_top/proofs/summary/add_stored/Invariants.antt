@@ -1,6 +1,6 @@
 use Rattle.std.proofs.Common.{◌≡◌, ◌++◌, drop}
 use Rattle.geo_base.specs.Report.{with_line_feeds}
-use Rattle.geo_top.specs.Shown.{shown_world}
+use Rattle.run_report.specs.Shown.{shown_world}
 use Rattle.geo_top.specs.Summary.{stored_lines}
 use Rattle.geo_top.proofs.summary.add_stored.Given as goal
 

@@ -1,5 +1,5 @@
-use Rattle.geo_top.specs.Shown.{shown_world}
-use Rattle.geo_top.proofs.Lines.{summary_whole}
+use Rattle.run_report.specs.Shown.{shown_world}
+use Rattle.geo_top.proofs.Summed.{summary_whole}
 use Rattle.geo_top.proofs.summary.add_summary.Goals as goal
 
 pub returns : goal.returns

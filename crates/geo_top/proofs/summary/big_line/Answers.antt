@@ -1,5 +1,5 @@
 use Rattle.std.proofs.Common.{◌∙◌}
-use Rattle.geo_top.proofs.Lines.{big_whole}
+use Rattle.geo_top.proofs.Summed.{big_whole}
 use Rattle.geo_top.proofs.summary.big_line.Goals as goal
 
 pub returns : goal.returns

@@ -4,7 +4,7 @@ use Rattle.geo_base.specs.declared.entry.Entry.{Entry}
 use Rattle.geo_base.specs.Report.{with_line_feeds}
 use Rattle.tiered_storage.specs.Readable.{AreTellable}
 use Rattle.tiered_storage.specs.Calls.{offloaded}
-use Rattle.geo_top.specs.Shown.{shown_world}
+use Rattle.run_report.specs.Shown.{shown_world}
 use Rattle.geo_top.specs.Tiered.{tiers_at}
 use Rattle.geo_top.proofs.Tiers.{entries_there, moved_first, tier_added}
 use Rattle.geo_top.proofs.Views.{name_at}

@@ -1,6 +1,6 @@
 use Rattle.std.proofs.Common.{◌++◌}
 use Rattle.geo_base.specs.Report.{with_line_feeds}
-use Rattle.geo_top.specs.Shown.{shown_world}
+use Rattle.run_report.specs.Shown.{shown_world}
 use Rattle.geo_top.specs.Tiered.{tiers_of}
 use Rattle.geo_top.proofs.Tiers.{topic_tiered}
 use Rattle.geo_top.proofs.tiered.add_topics.Goals as goal

@@ -1,6 +1,6 @@
 use Rattle.std.proofs.Common.{◌≡◌, ◌++◌, drop}
 use Rattle.geo_base.specs.Report.{with_line_feeds}
-use Rattle.geo_top.specs.Shown.{shown_world}
+use Rattle.run_report.specs.Shown.{shown_world}
 use Rattle.geo_top.specs.Tiered.{tiers_of}
 use Rattle.geo_top.proofs.tiered.add_topics.Given as goal
 

@@ -1,4 +1,4 @@
-use Rattle.geo_top.proofs.Shown.{shown_report}
+use Rattle.run_report.proofs.Shown.{shown_report}
 use Rattle.geo_top.proofs.top.scripts.reported.Goals as goal
 
 pub returns-clause-done : goal.returns-clause-done

@@ -1,4 +1,4 @@
-use Rattle.geo_top.proofs.Shown.{shown_summary}
+use Rattle.geo_top.proofs.Summed.{shown_summary}
 use Rattle.geo_top.proofs.top.scripts.summary.Goals as goal
 
 pub returns : goal.returns

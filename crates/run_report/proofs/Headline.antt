@@ -22,10 +22,10 @@ use Rattle.world_laws.proofs.Dispatching.Keeping.{kept_between}
 use Rattle.world_laws.proofs.OnceInOrder.Once.{once_always}
 use Rattle.world_laws.proofs.Induction.Runs.{always_in}
 use Rattle.world_laws.proofs.Telling.ToldLaws.{safe_always}
-use Rattle.geo_top.specs.Headline.{AllCameOver, IsAlwaysInTime, IsAlwaysKept, IsAlwaysOnce, IsAlwaysSafe, IsAlwaysSettled, IsInBacklog, IsSafe, NothingIsLost, SettlesInRounds}
-use Rattle.geo_top.specs.Outputs.{exceeded_limit}
-use Rattle.geo_top.proofs.Quiet.{run_settled}
-use Rattle.geo_top.proofs.ShortSettling.{part_short, taken_short, written_short}
+use Rattle.run_report.specs.Headline.{AllCameOver, IsAlwaysInTime, IsAlwaysKept, IsAlwaysOnce, IsAlwaysSafe, IsAlwaysSettled, IsInBacklog, IsSafe, NothingIsLost, SettlesInRounds}
+use Rattle.run_report.specs.Reports.{exceeded_limit}
+use Rattle.run_report.proofs.Quiet.{run_settled}
+use Rattle.run_report.proofs.ShortSettling.{part_short, taken_short, written_short}
 
 -- once and in order, always
 pub always_once : (n : Script) → IsAlwaysOnce n

@@ -16,13 +16,13 @@ use Rattle.world_laws.specs.Residency.{IsMarked}
 use Rattle.world_laws.proofs.Residing.EachRun.{in_each_run}
 use Rattle.failover_laws.specs.Moves.{MayMove}
 use Rattle.failover_laws.proofs.Handover.InRuns.{may_move}
-use Rattle.geo_top.specs.Claims.{HoldsOf}
-use Rattle.geo_top.specs.Outputs.{exceeded_limit}
-use Rattle.geo_top.proofs.Again.{nothing_again}
-use Rattle.geo_top.proofs.Anew.{begins_anew}
-use Rattle.geo_top.proofs.Handed.{got_in, handed_in, in_order_in}
-use Rattle.geo_top.proofs.Headline.{always_in_time, always_kept, always_once, always_safe, always_settled}
-use Rattle.geo_top.proofs.ShortSettling.{part_short}
+use Rattle.run_report.specs.Claims.{HoldsOf}
+use Rattle.run_report.specs.Reports.{exceeded_limit}
+use Rattle.run_report.proofs.Again.{nothing_again}
+use Rattle.run_report.proofs.Anew.{begins_anew}
+use Rattle.run_report.proofs.Handed.{got_in, handed_in, in_order_in}
+use Rattle.run_report.proofs.Headline.{always_in_time, always_kept, always_once, always_safe, always_settled}
+use Rattle.run_report.proofs.ShortSettling.{part_short}
 
 -- what holds always twice holds together
 both_in : (s : Setup) (es : List Step) (P Q : World → SettledSoFar → Type 0) → AlwaysIn s es P → AlwaysIn s es Q → AlwaysIn s es (λ w told. P w told × Q w told)

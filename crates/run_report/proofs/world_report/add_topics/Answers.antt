@@ -1,8 +1,8 @@
 use Rattle.std.proofs.Common.{◌++◌}
 use Rattle.geo_base.specs.Report.{topic_lines, with_line_feeds}
-use Rattle.geo_top.specs.Shown.{shown_world}
-use Rattle.geo_top.proofs.Lines.{topic_added}
-use Rattle.geo_top.proofs.world_report.add_topics.Goals as goal
+use Rattle.run_report.specs.Shown.{shown_world}
+use Rattle.run_report.proofs.Lines.{topic_added}
+use Rattle.run_report.proofs.world_report.add_topics.Goals as goal
 
 pub loop-number-preserved : goal.loop-number-preserved
 loop-number-preserved c =

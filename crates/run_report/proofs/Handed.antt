@@ -10,9 +10,9 @@ use Rattle.world_laws.specs.Telling.{AlwaysToldIn, BetweenToldIn}
 use Rattle.consumer_laws.specs.Handed.{OnlyHanded, handing}
 use Rattle.consumer_laws.specs.InOrder.{FirstInOrder, GetsInOrder}
 use Rattle.consumer_laws.proofs.Runs.Law.{law_holds}
-use Rattle.geo_top.specs.Claims.{IsGotUnlessSkipped}
-use Rattle.geo_top.specs.Outputs.{exceeded_limit}
-use Rattle.geo_top.proofs.ShortSettling.{taken_short, written_short}
+use Rattle.run_report.specs.Claims.{IsGotUnlessSkipped}
+use Rattle.run_report.specs.Reports.{exceeded_limit}
+use Rattle.run_report.proofs.ShortSettling.{taken_short, written_short}
 
 -- such a run is short at each of its moments
 module _ (n : Script) (scripted : IsScripted n.setup) (none : exceeded_limit n ≡ None) where

@@ -23,8 +23,8 @@ use Rattle.world_laws.proofs.Walks.Shapes.{Shape}
 use Rattle.world_laws.proofs.Dispatching.SubFrames.{AllSubs}
 use Rattle.world_laws.proofs.Budget.Tails.{sum_cons, sum_from, whole_new}
 use Rattle.world_laws.proofs.Walks.Walk.{on_if}
-use Rattle.geo_top.proofs.FewSent.{shape_sent}
-use Rattle.geo_top.proofs.Held.{IsSmall, done_held, done_small, halted_held, halted_small, held, restarted_held, waiting_most}
+use Rattle.run_report.proofs.FewSent.{shape_sent}
+use Rattle.run_report.proofs.Held.{IsSmall, done_held, done_small, halted_held, halted_small, held, restarted_held, waiting_most}
 
 -- ---- caches are small, always
 

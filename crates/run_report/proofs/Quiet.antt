@@ -11,7 +11,7 @@ use Rattle.script_generator.specs.Drawing.{seeded}
 use Rattle.script_generator.specs.Generated.{generated_run}
 use Rattle.script_generator.specs.Schedule.{connects, finishes, generated_steps, opens, turns}
 use Rattle.world_laws.proofs.Budget.InTime.{settles_in_time}
-use Rattle.geo_top.proofs.Limits.{never_ends}
+use Rattle.run_report.proofs.Limits.{never_ends}
 
 -- a run of some steps, and then of others
 pub run_append : (l : Limits) (s : Setup) (r : Ran) (es fs : List Step) → run_from l s r (es ++ fs) ≡ run_from l s (run_from l s r es) fs

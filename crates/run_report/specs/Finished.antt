@@ -8,8 +8,8 @@ use Rattle.script_text.specs.Script.{Script}
 use Rattle.state_file.specs.State.{SavedState}
 use Rattle.kept_laws.specs.Standing.{Stands}
 use Rattle.kept_laws.specs.Reached.{Reached}
-use Rattle.geo_top.specs.Outputs.{exceeded_limit}
-use Rattle.geo_top.specs.States.{resumed, resumed_under}
+use Rattle.run_report.specs.Reports.{exceeded_limit}
+use Rattle.run_report.specs.States.{resumed, resumed_under}
 
 -- the run passes no limit, and the world stands for the machine's at its end
 pub record IsFinished (n : Script) (b : WorldView) : Type 0 where

@@ -1,8 +1,8 @@
 use Rattle.std.proofs.Common.{◌++◌}
 use Rattle.geo_base.specs.Report.{cluster_lines, with_line_feeds}
-use Rattle.geo_top.specs.Shown.{shown_world}
-use Rattle.geo_top.proofs.Lines.{place_added, replicators_there}
-use Rattle.geo_top.proofs.world_report.add_places.Goals as goal
+use Rattle.run_report.specs.Shown.{shown_world}
+use Rattle.run_report.proofs.Lines.{place_added, replicators_there}
+use Rattle.run_report.proofs.world_report.add_places.Goals as goal
 
 pub add_broker-requires : goal.add_broker-requires
 add_broker-requires c =

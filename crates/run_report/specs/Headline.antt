@@ -15,7 +15,7 @@ use Rattle.geo_base.specs.Setup.{Setup}
 use Rattle.geo_base.specs.Subscription.{Subscription}
 use Rattle.geo_base.specs.World.{World, opening_world, topic_at}
 use Rattle.script_text.specs.Script.{Script}
-use Rattle.geo_top.specs.Again.{ComesNotAgain}
+use Rattle.run_report.specs.Again.{ComesNotAgain}
 
 -- once and in order in the topic of every broker, always in the run of a script, also inside settling and after each single
 -- durable write

@@ -18,8 +18,8 @@ use Rattle.consumer_laws.specs.Got.{AllEarliest, OnlyGot, seeks}
 use Rattle.consumer_laws.specs.Handed.{OnlyHanded, handing}
 use Rattle.consumer_laws.specs.InOrder.{FirstInOrder, GetsInOrder}
 use Rattle.failover_laws.specs.Moves.{AllActedOn, AllCovered, AllDrained, AllEnded, AllHandedOver, AllOffered, AllSwitchedOver, AlwaysRoom}
-use Rattle.geo_top.specs.Headline.{IsAlwaysInTime, IsAlwaysKept, IsAlwaysOnce, IsAlwaysSafe, IsAlwaysSettled, NothingComesAgain}
-use Rattle.geo_top.specs.Outputs.{exceeded_limit}
+use Rattle.run_report.specs.Headline.{IsAlwaysInTime, IsAlwaysKept, IsAlwaysOnce, IsAlwaysSafe, IsAlwaysSettled, NothingComesAgain}
+use Rattle.run_report.specs.Reports.{exceeded_limit}
 
 -- where each sub line is earliest and none of the steps so far seeks, what a cursor has somebody's list of what it got has
 abbrev pub IsGotUnlessSkipped : Script → Type 0

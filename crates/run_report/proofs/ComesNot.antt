@@ -26,7 +26,7 @@ use Rattle.failover_laws.proofs.Lasting.{since_keeps, still_passed, within_keeps
 use Rattle.failover_laws.proofs.Never.{never_law}
 use Rattle.failover_laws.proofs.Passing.{passes_between}
 use Rattle.failover_laws.proofs.Running.{run_follows, settling_follows}
-use Rattle.geo_top.specs.Again.{AllStayUpdated, ComesNotAgain, IsBehindRequests}
+use Rattle.run_report.specs.Again.{AllStayUpdated, ComesNotAgain, IsBehindRequests}
 
 -- ---- what was passed over stays so
 

@@ -1,7 +1,7 @@
 use Rattle.std.proofs.Common.{◌≡◌, ◌++◌, drop}
 use Rattle.geo_base.specs.Report.{topic_lines, with_line_feeds}
-use Rattle.geo_top.specs.Shown.{shown_world}
-use Rattle.geo_top.proofs.world_report.add_topics.Given as goal
+use Rattle.run_report.specs.Shown.{shown_world}
+use Rattle.run_report.proofs.world_report.add_topics.Given as goal
 
 -- the lines so far and the rest make the whole
 abbrev pub invariant-loop-number : goal.invariant-loop-number

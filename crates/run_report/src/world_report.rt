@@ -4,7 +4,7 @@
 //! given up then.
 ghost use Rattle.std.specs.Prelude.{◌≡◌, ◌<◌, ◌++◌, ◌∷◌, [], length, IfOk, OnOk, OnErr};
 ghost use Rattle.geo_base.specs.Report.{client_lines, cluster_lines, head_line, report, topic_lines, with_line_feeds};
-ghost use Rattle.geo_top.specs.Shown.{shown_world};
+ghost use Rattle.run_report.specs.Shown.{shown_world};
 ghost use Rattle.world.specs.World.{IsAt};
 
 use geo_base::{Blob, Memory};

@@ -1,8 +1,8 @@
 use Rattle.std.proofs.Common.{◌++◌}
 use Rattle.geo_base.specs.Report.{client_lines, with_line_feeds}
-use Rattle.geo_top.specs.Shown.{shown_world}
-use Rattle.geo_top.proofs.Lines.{client_added, client_number, client_there, client_within}
-use Rattle.geo_top.proofs.world_report.add_clients.Goals as goal
+use Rattle.run_report.specs.Shown.{shown_world}
+use Rattle.run_report.proofs.Lines.{client_added, client_number, client_there, client_within}
+use Rattle.run_report.proofs.world_report.add_clients.Goals as goal
 
 pub overflow_cast-number : goal.overflow_cast-number
 overflow_cast-number c =

@@ -4,10 +4,10 @@ use Rattle.std.specs.Prelude.{None}
 use Rattle.geo_base.specs.Scripted.{IsScripted}
 use Rattle.geo_base.specs.World.{opening_world}
 use Rattle.script_text.specs.Script.{Script}
-use Rattle.geo_top.specs.Headline.{NothingComesAgain}
-use Rattle.geo_top.specs.Outputs.{exceeded_limit}
-use Rattle.geo_top.proofs.ComesNot.{comes_not, of_opening}
-use Rattle.geo_top.proofs.ShortSettling.{taken_short}
+use Rattle.run_report.specs.Headline.{NothingComesAgain}
+use Rattle.run_report.specs.Reports.{exceeded_limit}
+use Rattle.run_report.proofs.ComesNot.{comes_not, of_opening}
+use Rattle.run_report.proofs.ShortSettling.{taken_short}
 
 pub nothing_again : (n : Script) → IsScripted n.setup → exceeded_limit n ≡ None → NothingComesAgain n
 nothing_again n scripted none =

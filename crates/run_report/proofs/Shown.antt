@@ -1,4 +1,4 @@
--- A report and a summary do not show the links, and so they are those of the machine's world.
+-- A report does not show the links, and so it is that of the machine's world.
 use Rattle.std.proofs.Common.{◌≡◌, ℕ, ◌+◌, List, [], ◌∷◌, ◌++◌, refl, ap, ◌∙◌}
 use Rattle.std.specs.Prelude.{◌==◌, if◌then◌else◌, map, codes}
 use Rattle.geo_base.specs.declared.event.Step.{Step}
@@ -7,15 +7,13 @@ use Rattle.geo_base.specs.Run.{run}
 use Rattle.geo_base.specs.Setup.{Declared, Setup}
 use Rattle.geo_base.specs.World.{World, client_at, topic_at}
 use Rattle.world.specs.World.{WorldView, kept_of}
-use Rattle.script_generator.specs.Generated.{generated_run}
 use Rattle.script_text.specs.Script.{Script}
 use Rattle.kept_laws.specs.Standing.{Stands}
 use Rattle.state_file.specs.State.{SavedState}
-use Rattle.geo_top.specs.Finished.{IsFinished, IsResumed}
-use Rattle.geo_top.specs.Outputs.{report_of, resumed_report, summary_of}
-use Rattle.geo_top.specs.States.{resumed}
-use Rattle.geo_top.specs.Shown.{no_links, shown_world}
-use Rattle.geo_top.specs.Summary.{big_line, stored_line, stored_lines, summary, summary_lines}
+use Rattle.run_report.specs.Finished.{IsFinished, IsResumed}
+use Rattle.run_report.specs.Reports.{report_of, resumed_report}
+use Rattle.run_report.specs.States.{resumed}
+use Rattle.run_report.specs.Shown.{no_links, shown_world}
 
 abbrev pub unlinked : World → World
 unlinked w = record w { links = no_links }
@@ -47,15 +45,6 @@ same_report : (s : Setup) (w : World) → report s (unlinked w) ≡ report s w
 unfolding report_lines
 same_report s w = ap (λ (ls : List (List ℕ)). with_line_feeds (head_line w ∷ ls)) (same_topics s w 0 s.topics)
 
-same_stored : (s : Setup) (w : World) (x : ℕ) (ns : List (List ℕ)) → stored_lines s (unlinked w) x ns ≡ stored_lines s w x ns
-same_stored s w x [] = refl
-same_stored s w x (n ∷ ns) = ap (λ (ls : List (List ℕ)). stored_line n (topic_at s w 0 x).entries ∷ ls) (same_stored s w (x + 1) ns)
-
-same_summary : (number : ℕ) (s : Setup) (w : World) → summary number s (unlinked w) ≡ summary number s w
-unfolding summary_lines
-same_summary number s w =
-    ap (λ (ls : List (List ℕ)). with_line_feeds (big_line number ∷ ls ++ (codes "quiet" ∷ head_line w ∷ []))) (same_stored s w 0 s.clusters)
-
 -- the report that is shown of a world is that of the machine's
 pub shown_same : (s : Setup) (b : WorldView) (w : World) → Stands s (kept_of b) w → report s (shown_world b) ≡ report s w
 shown_same s b w h = ap (report s) (shown_is s b w h) ∙ same_report s w
@@ -63,16 +52,6 @@ shown_same s b w h = ap (report s) (shown_is s b w h) ∙ same_report s w
 pub shown_report : (n : Script) (b : WorldView) (bytes : List ℕ) → IsFinished n b → bytes ≡ report n.setup (shown_world b) → bytes ≡ report_of n
 shown_report n b bytes f is =
     let w = run n.setup n.steps in is ∙ (ap (report n.setup) (shown_is n.setup b w f.stands) ∙ same_report n.setup w)
-
-summed_up : (number : ℕ) (n : Script) (b : WorldView) (bytes : List ℕ) → IsFinished n b → bytes ≡ summary number n.setup (shown_world b)
-    → bytes ≡ summary number n.setup (run n.setup n.steps)
-summed_up number n b bytes f is =
-    let w = run n.setup n.steps in is ∙ (ap (summary number n.setup) (shown_is n.setup b w f.stands) ∙ same_summary number n.setup w)
-
-pub shown_summary : (number : ℕ) (n : Script) (b : WorldView) (bytes : List ℕ) → n ≡ generated_run number → IsFinished n b
-    → bytes ≡ summary number n.setup (shown_world b) → bytes ≡ summary_of number
-shown_summary number n b bytes generated f is =
-    summed_up number n b bytes f is ∙ ap (λ (m : Script). summary number m.setup (run m.setup m.steps)) generated
 
 pub shown_resumed : (f : SavedState) (es : List Step) (b : WorldView) (bytes : List ℕ) → IsResumed f es b → bytes ≡ report f.scenario.setup (shown_world b) → bytes ≡ resumed_report f es
 shown_resumed f es b bytes r is =

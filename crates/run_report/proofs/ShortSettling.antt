@@ -24,11 +24,11 @@ use Rattle.world_laws.proofs.Budget.Rounds.{all_reset, at}
 use Rattle.world_laws.proofs.Induction.Runs.{by_events, kept_on, run_on}
 use Rattle.world_laws.proofs.Walks.Walk.{on_if}
 use Rattle.world_laws.proofs.Budget.Weights.{weight}
-use Rattle.geo_top.proofs.Energy.{energy, part_events, reset_at, round_energy}
-use Rattle.geo_top.proofs.FewEvents.{ran_few}
-use Rattle.geo_top.proofs.Limits.{never_ends, steps_back, unlimited}
-use Rattle.geo_top.proofs.Quiet.{run_append}
-use Rattle.geo_top.proofs.Waiting.{AreSmall, IsFew, few_kept, small_kept, waiting_few}
+use Rattle.run_report.proofs.Energy.{energy, part_events, reset_at, round_energy}
+use Rattle.run_report.proofs.FewEvents.{ran_few}
+use Rattle.run_report.proofs.Limits.{never_ends, steps_back, unlimited}
+use Rattle.run_report.proofs.Quiet.{run_append}
+use Rattle.run_report.proofs.Waiting.{AreSmall, IsFew, few_kept, small_kept, waiting_few}
 use Rattle.geo_base.proofs.Sums.{cube}
 
 -- ---- how many pairs of clusters there are

@@ -1,22 +1,21 @@
--- What each part of a report or a summary of a world leaves of the whole.
-use Rattle.std.proofs.Common.{◌≡◌, ℕ, ◌+◌, ◌<◌, ◌==◌, if◌then◌else◌, List, [], ◌∷◌, ◌++◌, length, drop, get_or, map, sym, ap, subst, ◌∙◌, append_assoc, arith, Fits, w32}
+-- What each part of a report of a world leaves of the whole.
+use Rattle.std.proofs.Common.{◌≡◌, ℕ, ◌+◌, ◌<◌, ◌==◌, if◌then◌else◌, List, [], ◌∷◌, ◌++◌, length, drop, get_or, map, sym, ap, subst, ◌∙◌, arith, Fits, w32}
 use Rattle.std.proofs.lemmas.List.{drop_more, get_or-map, get_or_read}
-use Rattle.std.specs.Prelude.{codes, decimal, slice_index_or}
+use Rattle.std.specs.Prelude.{codes, slice_index_or}
 use Rattle.geo_base.specs.Broker.{Broker, Site, no_broker}
 use Rattle.geo_base.specs.Client.{Client, new_client}
-use Rattle.geo_base.specs.Report.{broker_lines, client_line, client_lines, cluster_lines, got_line, head_line, topic_lines, with_line_feeds, words}
+use Rattle.geo_base.specs.Report.{broker_lines, client_line, client_lines, cluster_lines, got_line, topic_lines, with_line_feeds, words}
 use Rattle.geo_base.specs.Scripted.{IsScripted}
 use Rattle.geo_base.specs.Setup.{Declared, Setup, declared_at}
 use Rattle.geo_base.specs.World.{World, broker_at, client_at, node, topic_at}
 use Rattle.world.specs.World.{IsAt, WorldView, no_node, node_at}
-use Rattle.report_lines.proofs.Parts.{lines_added, with_line_feeds-append}
+use Rattle.report_lines.proofs.Parts.{lines_added}
 use Rattle.report_lines.proofs.Added.{line_added}
 use Rattle.broker.specs.Node.{BrokerView}
 use Rattle.world_laws.specs.Reached.{IsGround}
 use Rattle.kept_laws.proofs.Reaching.{ground}
 use Rattle.world_laws.proofs.Replicating.Sizes.{node_lt}
-use Rattle.geo_top.specs.Shown.{shown_world}
-use Rattle.geo_top.specs.Summary.{big_line, stored_line, stored_lines, summary, summary_lines}
+use Rattle.run_report.specs.Shown.{shown_world}
 use Rattle.world_laws.proofs.Merges.FewNodes.{few_clients}
 
 -- the items from one that was read on
@@ -67,17 +66,6 @@ module _ (s : Setup) (b : WorldView) (at : IsAt s b) (t x : ℕ) (topic : t < le
       lines_added mid new whole at_cluster rest added
       (line_added old mid (words (codes "topic" ∷ name ∷ codes "at" ∷ n ∷ [])) whole (at_cluster ++ rest) first (rw (here s.clusters x n cluster read) at before))
 
--- the messages that the one topic stored at a cluster
-pub stored_added : (s : Setup) (b : WorldView) (at : IsAt s b) (x : ℕ) (topic : 0 < length s.topics) (cluster : x < length s.clusters)
-    → (n : List ℕ) (v : BrokerView) (old new whole : List ℕ) → n ≡ get_or s.clusters x n → v ≡ node_at b.brokers (node s 0 x)
-    → new ≡ old ++ (stored_line n v.broker.entries ++ 10 ∷ [])
-    → old ++ with_line_feeds (stored_lines s (shown_world b) x (drop x s.clusters)) ≡ whole
-    → new ++ with_line_feeds (stored_lines s (shown_world b) (x + 1) (drop (x + 1) s.clusters)) ≡ whole
-stored_added s b at x topic cluster n v old new whole read is added before =
-    let stored : v.broker ≡ topic_at s (shown_world b) 0 x = ap (λ (u : BrokerView). u.broker) is ∙ broker_there s b at 0 x topic cluster in
-    line_added old new (stored_line n v.broker.entries) whole (stored_lines s (shown_world b) (x + 1) (drop (x + 1) s.clusters)) added
-    (rw (← stored) at (rw (here s.clusters x n cluster read) at before))
-
 pub client_added : (s : Setup) (w : World) (t i : ℕ) (d : Declared) (k : Client) (old new whole : List ℕ) → i < length s.clients → d ≡ get_or s.clients i d
     → k ≡ client_at s w i
     → new ≡ old ++ with_line_feeds (if d.topic == t then client_line s d k ∷ map (got_line s.clusters) k.got else [])
@@ -109,22 +97,3 @@ topic_added s w i name n old mid new whole within read is places clients before 
     lines_added mid new whole (client_lines s w i 0 s.clients) rest clients
     (lines_added old mid whole (cluster_lines s w i n 0 s.clusters) (client_lines s w i 0 s.clients ++ rest)
     (subst (λ (m : List ℕ). mid ≡ old ++ with_line_feeds (cluster_lines s w i m 0 s.clusters)) is places) (rw (here s.topics i n within read) at before))
-
--- ---- the summary
-
-pub big_whole : (number : ℕ) → codes "big " ++ (decimal number ++ codes " clusters 3 messages 2000\n") ≡ big_line number ++ 10 ∷ []
-big_whole number = simp append_assoc
-
-put : (big stored quiet head : List ℕ) → ((((big ++ 10 ∷ []) ++ stored) ++ (quiet ++ 10 ∷ [])) ++ (head ++ 10 ∷ []))
-    ≡ big ++ (10 ∷ (stored ++ (quiet ++ (10 ∷ (head ++ (10 ∷ []))))))
-put big stored quiet head = simp append_assoc
-
-pub summary_whole : (number : ℕ) (s : Setup) (w : World) (one two three four : List ℕ) → one ≡ big_line number ++ 10 ∷ []
-    → two ≡ one ++ with_line_feeds (stored_lines s w 0 s.clusters) → three ≡ two ++ codes "quiet\n" → four ≡ three ++ (head_line w ++ 10 ∷ [])
-    → four ≡ summary number s w
-unfolding summary_lines
-summary_whole number s w one two three four first stored quiet head =
-    let lines = stored_lines s w 0 s.clusters in
-    let last : List (List ℕ) = codes "quiet" ∷ head_line w ∷ [] in
-    rw (head, quiet, stored, first) (put (big_line number) (with_line_feeds lines) (codes "quiet") (head_line w)
-    ∙ ap (λ (rest : List ℕ). big_line number ++ (10 ∷ rest)) (sym (with_line_feeds-append lines last)))

@@ -13,11 +13,11 @@ use Rattle.script_text.specs.Script.{Script}
 use Rattle.world_laws.specs.AlikeWorlds.{world_on}
 use Rattle.consumer_laws.specs.Anew.{all_sought}
 use Rattle.consumer_laws.proofs.Fences.Law.{anew_holds}
-use Rattle.geo_top.specs.Claims.{BeginsAnew}
-use Rattle.geo_top.specs.Outputs.{exceeded_limit}
-use Rattle.geo_top.proofs.Limits.{never_ends}
-use Rattle.geo_top.proofs.Quiet.{run_append}
-use Rattle.geo_top.proofs.ShortSettling.{part_short}
+use Rattle.run_report.specs.Claims.{BeginsAnew}
+use Rattle.run_report.specs.Reports.{exceeded_limit}
+use Rattle.run_report.proofs.Limits.{never_ends}
+use Rattle.run_report.proofs.Quiet.{run_append}
+use Rattle.run_report.proofs.ShortSettling.{part_short}
 
 open_at : (r : Ran) → r.ended ≡ None → r ≡ begun r.world
 open_at r none = ap (λ (o : Option ℕ). record { world = r.world; ended = o }) none

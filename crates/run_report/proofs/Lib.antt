@@ -1,0 +1,16 @@
+pub mod Limits
+pub mod Lines
+pub mod Shown
+pub mod Quiet
+pub mod FewSent
+pub mod Held
+pub mod Waiting
+pub mod Energy
+pub mod FewEvents
+pub mod ShortSettling
+pub mod Headline
+pub mod ComesNot
+pub mod Again
+pub mod Anew
+pub mod Handed
+pub mod Claims
